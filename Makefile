@@ -1,0 +1,4 @@
+test:
+	.ci/run
+
+.PHONY: test

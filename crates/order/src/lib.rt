@@ -1,0 +1,6 @@
+// How one thing stands to another.
+pub enum Ordering {
+    Less,
+    Equal,
+    Greater,
+}
