@@ -1,0 +1,4 @@
+pub mod Comparison
+pub mod Map
+pub mod Walk
+pub mod Many
