@@ -1,0 +1,5 @@
+pub mod Change
+pub mod Difference
+pub mod Merge
+pub mod Application
+pub mod History
