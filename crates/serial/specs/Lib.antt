@@ -1,0 +1,3 @@
+pub mod Serial
+pub mod Rfc1982
+pub mod Timing
