@@ -1,6 +1,6 @@
 -- The check of a run of fields as the loop makes it.
 use Prim.Native.Nat.{ℕ, zero, suc, _+_, _-_, _<_, _≤_}
-use mathlib.Core.Path.{_≡_, refl, sym, _∙_}
+use mathlib.Core.Path.{_≡_, refl}
 use mathlib.Core.List.{List}
 use mathlib.Core.Bool.{Bool, true, false, not}
 use native.Mathlib.Omega.{arith}
@@ -13,11 +13,10 @@ use Rattle.field.specs.declared.head.Field.{Field}
 use Rattle.field.specs.declared.head.Field.the-variants.{End, Cut, Whole}
 use Rattle.field.specs.declared.key.Key.{Key}
 use Rattle.field.specs.declared.tag.Form.{Form}
-use Rattle.field.specs.declared.verdict.Verdict.{Verdict}
 use Rattle.field.specs.declared.verdict.Verdict.the-variants.{Fine, Bad, NotAbove}
 use Rattle.field.specs.Tag.{goodBody, kindOf}
 use Rattle.field.specs.Head.{front}
-use Rattle.field.specs.Verdict.{isLess, judge, verdictF, verdict}
+use Rattle.field.specs.Verdict.{judge, verdictF, verdict}
 use Rattle.field.specs.Places.{part, fieldAt, KeyFits, keyIn, keyPlace}
 use Rattle.field.proofs.Fields.{end-at, cut-at, whole-at, body-ordered, body-within}
 use Rattle.field.proofs.Keys.{key-fits, key-in}
