@@ -2,7 +2,7 @@
 use Prim.Native.Nat.{ℕ}
 use mathlib.Core.Path.{_≡_, refl}
 use Rattle.serial.specs.declared.Serial.{Serial}
-use Rattle.serial.specs.declared.order.Standing.the-variants.{Equal, Before, After, Unordered}
+use Rattle.serial.specs.declared.order.Standing.the-variants.{Before, After, Unordered}
 use Rattle.serial.specs.declared.timing.Timing.{Timing}
 use Rattle.serial.specs.Serial.{nextOf, distanceOf, sessionOf}
 use Rattle.serial.specs.Rfc1982.{firstOf, standing}
@@ -49,7 +49,7 @@ not-transitive = (refl, refl, refl)
 pub k11 : timingOf (values 0 0 0) ≡ values 1 1 600
 k11 = refl
 
--- at the low bounds, and one below the lowest expire
+-- at the low bounds, one above and one below them
 pub low-bounds : (timingOf (values 1 1 600) ≡ values 1 1 600) × (timingOf (values 2 2 601) ≡ values 2 2 601) × (timingOf (values 0 0 599) ≡ values 1 1 600)
 low-bounds = (refl, refl, refl)
 

@@ -1,6 +1,6 @@
 -- Laws of the serial after and of the distance of two serials.
 use Prim.Native.Nat.{ℕ, _+_, _%_, _^_, _<_}
-use mathlib.Core.Path.{_≡_, refl}
+use mathlib.Core.Path.{_≡_}
 use mathlib.Core.Logic.{_↔_}
 use native.Mathlib.Omega.{arith}
 use Rattle.serial.specs.declared.Serial.{Serial}
