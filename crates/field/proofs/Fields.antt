@@ -121,3 +121,7 @@ module _ (s : List ℕ) (at : ℕ) (r : Field) (f : r ≡ fieldAt s at) where
     -- a field takes at least its head
     pub field-long : at + 3 ≤ to
     field-long = let w = whole-at in omega arith
+
+    -- and so less is left behind it
+    pub field-less : length s - to < length s - at
+    field-less = let w = whole-at in omega arith

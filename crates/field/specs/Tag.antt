@@ -31,6 +31,7 @@ changeTag tag =
     (cond (eqb tag 0x32) (Aspa Withdraw)
     (cond (eqb tag 0x33) (Aspa Update) Unknown))))))
 
+-- what a tag says
 unfoldable pub tagOf : Form → ℕ → Tag
 tagOf Snapshot tag = itemTag tag
 tagOf Delta tag = changeTag tag
