@@ -1,0 +1,16 @@
+pub mod Comparing
+pub mod Numbers
+pub mod Prefixes
+pub mod Bodies
+pub mod Ascent
+pub mod Tags
+pub mod Digits
+pub mod Fronts
+pub mod Fields
+pub mod Keys
+pub mod Judging
+pub mod Run
+pub mod Encode
+pub mod Walk
+pub mod Sizes
+pub mod Examples

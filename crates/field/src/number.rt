@@ -1,0 +1,51 @@
+// Numbers of several bytes: big-endian.
+use order::Ordering;
+use serial::Asn;
+ghost use mathlib.Core.Path.{_≡_};
+ghost use Prim.Native.Nat.{_+_, _≤_, _<_};
+ghost use lib.ListN.{length};
+ghost use Rattle.order.specs.Comparison.{number};
+ghost use Rattle.field.specs.Number.{twoAt, asnAt};
+
+// A byte as a wider number.
+pub fn wide(x: u8) -> usize
+    ensures { λ r. ⌜ (r ≡ x) × (r < 256) ⌝ }
+{
+    x as usize
+}
+
+// The two bytes at i as a number.
+pub fn two_at(s: &[u8], i: usize) -> usize
+    requires { ⌜ i + 2 ≤ length (now s) ⌝ }
+    ensures { λ r. ⌜ (r ≡ twoAt (now (s .entry)) i) × (r < 65536) ⌝ }
+{
+    let high = wide(s[i]);
+    let low = wide(s[i + 1]);
+    high * 256 + low
+}
+
+// The four bytes at i as an AS number.
+pub fn asn_at(s: &[u8], i: usize) -> Asn
+    requires { ⌜ i + 4 ≤ length (now s) ⌝ }
+    ensures { λ r. ⌜ r ≡ asnAt (now (s .entry)) i ⌝ }
+{
+    let a = wide(s[i]);
+    let b = wide(s[i + 1]);
+    let c = wide(s[i + 2]);
+    let d = wide(s[i + 3]);
+    let n = ((a * 256 + b) * 256 + c) * 256 + d;
+    Asn(n as u32)
+}
+
+// How one AS number stands to another.
+pub fn asn_compare(a: Asn, b: Asn) -> Ordering
+    ensures { λ r. ⌜ r ≡ number (a .0) (b .0) ⌝ }
+{
+    if a.0 < b.0 {
+        return Ordering::Less;
+    }
+    if b.0 < a.0 {
+        return Ordering::Greater;
+    }
+    Ordering::Equal
+}
