@@ -1,0 +1,10 @@
+pub mod Comparing
+pub mod Numbers
+pub mod Prefixes
+pub mod Bodies
+pub mod Ascent
+pub mod Tags
+pub mod Fronts
+pub mod Fields
+pub mod Keys
+pub mod Judging

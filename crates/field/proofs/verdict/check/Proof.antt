@@ -1,0 +1,107 @@
+use borrow.Author.Needs.{needs}
+use Rattle.field.proofs.Judging.{Judged, judging}
+use Prim.Native.Nat.{_-_, _+_}
+use lib.ListN.{length}
+use Rattle.field.proofs.verdict.check.Statement.{statement}
+use Rattle.field.proofs.verdict.check.Tie as tie
+
+abbrev Inv-loop : tie.InvT-loop
+Inv-loop form s at₀ before₀ at before = Judged form s at before
+
+abbrev μ-loop : tie.MeasureT-loop
+μ-loop form s at₀ before₀ at before = length s - at
+
+loop-holds : tie.Need-loop-holds Inv-loop μ-loop
+loop-holds c = search (judging, needs)
+
+field-at-requires : tie.Need-field-at-requires Inv-loop μ-loop
+field-at-requires c κs = search (judging, needs)
+
+enum-told : tie.Need-enum-told Inv-loop μ-loop
+enum-told c = search (judging, needs)
+
+returns : tie.Need-returns Inv-loop μ-loop
+returns c = search (judging, needs)
+
+enum-told-2 : tie.Need-enum-told-2 Inv-loop μ-loop
+enum-told-2 c = search (judging, needs)
+
+returns-2 : tie.Need-returns-2 Inv-loop μ-loop
+returns-2 c = search (judging, needs)
+
+enum-known-tag : tie.Need-enum-known-tag Inv-loop μ-loop
+enum-known-tag c = search (judging, needs)
+
+sub-body-ok : tie.Need-sub-body-ok Inv-loop μ-loop
+sub-body-ok c = search (judging, needs)
+
+part-body-ok-start : tie.Need-part-body-ok-start Inv-loop μ-loop
+part-body-ok-start c = search (judging, needs)
+
+part-body-ok-end : tie.Need-part-body-ok-end Inv-loop μ-loop
+part-body-ok-end c = search (judging, needs)
+
+body-ok-requires : tie.Need-body-ok-requires Inv-loop μ-loop
+body-ok-requires c κs = search (judging, needs)
+
+returns-3 : tie.Need-returns-3 Inv-loop μ-loop
+returns-3 c = search (judging, needs)
+
+kind-of-requires : tie.Need-kind-of-requires Inv-loop μ-loop
+kind-of-requires c κs = search (judging, needs)
+
+key-at-requires : tie.Need-key-at-requires Inv-loop μ-loop
+key-at-requires c κs = search (judging, needs)
+
+key-compare-requires : tie.Need-key-compare-requires Inv-loop μ-loop
+key-compare-requires c κs = search (judging, needs)
+
+enum-told-3 : tie.Need-enum-told-3 Inv-loop μ-loop
+enum-told-3 c = search (judging, needs)
+
+loop-less : tie.Need-loop-less Inv-loop μ-loop
+loop-less c = search (judging, needs)
+
+loop-again : tie.Need-loop-again Inv-loop μ-loop
+loop-again c = search (judging, needs)
+
+enum-told-4 : tie.Need-enum-told-4 Inv-loop μ-loop
+enum-told-4 c = search (judging, needs)
+
+returns-4 : tie.Need-returns-4 Inv-loop μ-loop
+returns-4 c = search (judging, needs)
+
+enum-told-5 : tie.Need-enum-told-5 Inv-loop μ-loop
+enum-told-5 c = search (judging, needs)
+
+returns-5 : tie.Need-returns-5 Inv-loop μ-loop
+returns-5 c = search (judging, needs)
+
+pub check-spec : {M : Type 1} → statement M
+check-spec =
+    tie.close
+    (tie.spec
+    Inv-loop
+    μ-loop
+    loop-holds
+    field-at-requires
+    enum-told
+    returns
+    enum-told-2
+    returns-2
+    enum-known-tag
+    sub-body-ok
+    part-body-ok-start
+    part-body-ok-end
+    body-ok-requires
+    returns-3
+    kind-of-requires
+    key-at-requires
+    key-compare-requires
+    enum-told-3
+    loop-less
+    loop-again
+    enum-told-4
+    returns-4
+    enum-told-5
+    returns-5)

@@ -1,0 +1,49 @@
+-- The body of an ASPA: customer 4, then the providers; and of the update of one.
+use Prim.Native.Nat.{ℕ, _+_, _-_, _*_, _/_, _%_}
+use mathlib.Core.List.{List, [], _∷_}
+use mathlib.Core.Bool.{Bool, true, false, _&&_}
+use lib.ListN.{length, take, drop}
+use lib.Dec.{leb, ltb, eqb}
+use Rattle.field.specs.Number.{four, twoAt}
+
+-- the AS numbers of four bytes each; a rest of fewer than four bytes is none
+unfoldable pub asns : List ℕ → List ℕ
+asns [] = []
+asns (a ∷ []) = []
+asns (a ∷ b ∷ []) = []
+asns (a ∷ b ∷ c ∷ []) = []
+asns (a ∷ b ∷ c ∷ d ∷ s) = four a b c d ∷ asns s
+
+-- each number is above the one before it, and the first above x
+unfoldable pub ascendingFrom : ℕ → List ℕ → Bool
+ascendingFrom x [] = true
+ascendingFrom x (y ∷ ys) = ltb x y && ascendingFrom y ys
+
+-- strictly ascending
+unfoldable pub ascending : List ℕ → Bool
+ascending [] = true
+ascending (x ∷ xs) = ascendingFrom x xs
+
+-- 0 to 4,096 providers of 4, strictly ascending
+unfoldable pub goodProviders : List ℕ → Bool
+goodProviders l = leb (length l / 4) 4_096 && eqb (length l % 4) 0 && ascending (asns l)
+
+-- customer 4, then the providers
+unfoldable pub goodAspa : List ℕ → Bool
+goodAspa b = leb 4 (length b) && goodProviders (drop 4 b)
+
+-- how many bytes the former providers of an update take, by its count
+abbrev pub formerSize : List ℕ → ℕ
+formerSize b = twoAt b 4 * 4
+
+-- the former providers of an update, and the new ones
+abbrev pub formerOf : List ℕ → List ℕ
+formerOf b = take (formerSize b) (drop 6 b)
+
+abbrev pub newOf : List ℕ → List ℕ
+newOf b = drop (6 + formerSize b) b
+
+-- customer 4, two-byte count of former providers, those, then the new ones
+unfoldable pub goodUpdate : List ℕ → Bool
+goodUpdate b =
+    leb 6 (length b) && leb (formerSize b) (length b - 6) && goodProviders (formerOf b) && goodProviders (newOf b)

@@ -1,0 +1,20 @@
+-- The field at the front of a run of fields.
+use Prim.Native.Nat.{ℕ}
+use mathlib.Core.List.{List, [], _∷_}
+use mathlib.Core.Bool.{cond}
+use lib.ListN.{length, take, drop}
+use lib.Dec.{leb}
+use Rattle.field.specs.Number.{two}
+
+-- nothing; a field that is cut short; a field, and the bytes behind it
+pub data Front : Type 0 where
+  end : Front
+  cut : Front
+  whole : (tag : ℕ) (body rest : List ℕ) → Front
+
+-- one-byte tag, two-byte length n, n bytes of body
+unfoldable pub front : List ℕ → Front
+front [] = end
+front (tag ∷ []) = cut
+front (tag ∷ a ∷ []) = cut
+front (tag ∷ a ∷ b ∷ s) = cond (leb (two a b) (length s)) (whole tag (take (two a b) s) (drop (two a b) s)) cut

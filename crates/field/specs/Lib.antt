@@ -1,0 +1,10 @@
+pub mod Number
+pub mod Origin
+pub mod RouterKey
+pub mod Aspa
+pub mod Tag
+pub mod Head
+pub mod Key
+pub mod Verdict
+pub mod Cells
+pub mod Places

@@ -1,0 +1,37 @@
+-- What the places that the code keeps stand for in the bytes s.
+use Prim.Native.Nat.{ℕ, _+_, _-_, _≤_, min}
+use mathlib.Core.List.{List, _∷_}
+use mathlib.Core.Bool.{cond}
+use lib.Dec.{eqb}
+use lib.ListN.{length, take, drop}
+use Rattle.field.specs.declared.head.Field.{Field}
+use Rattle.field.specs.declared.head.Field.the-variants.{End, Cut, Whole}
+use Rattle.field.specs.declared.key.Key.{Key}
+use Rattle.field.specs.Head.{Front, end, cut, whole, front}
+
+-- the bytes from `from` up to `to`
+abbrev pub part : List ℕ → ℕ → ℕ → List ℕ
+part s from to = take (to - from) (drop from s)
+
+-- where the field that stands at `at` has its body: behind its three-byte head
+abbrev pub place : ℕ → Front → Field
+place at end = End
+place at cut = Cut
+place at (whole tag b rest) = Whole tag (at + 3) (at + 3 + length b)
+
+-- the field of s at `at`
+unfoldable pub fieldAt : List ℕ → ℕ → Field
+fieldAt s at = place at (front (drop at s))
+
+-- a key's bytes lie in s
+pub record KeyFits (s : List ℕ) (k : Key) : Type 0 where
+  pub ordered : k .from ≤ k .to
+  pub within : k .to ≤ length s
+
+-- the key that a place stands for
+abbrev pub keyIn : List ℕ → Key → List ℕ
+keyIn s k = k .kind ∷ part s (k .from) (k .to)
+
+-- the place of the key of a body that lies from `from` up to `to`: of an ASPA (kind 3) its first four bytes
+abbrev pub keyPlace : ℕ → ℕ → ℕ → Key
+keyPlace kind from to = record { kind = kind; from = from; to = cond (eqb kind 3) (min (from + 4) to) to }

@@ -1,0 +1,65 @@
+-- Tags: the kind of a field's item, what a delta does with it, and the rule of its body.
+use Prim.Native.Nat.{ℕ}
+use mathlib.Core.List.{List}
+use mathlib.Core.Bool.{Bool, true, false, cond}
+use lib.Dec.{eqb}
+use Rattle.field.specs.declared.tag.Form.{Form}
+use Rattle.field.specs.declared.tag.Form.the-variants.{Snapshot, Delta}
+use Rattle.field.specs.declared.tag.Action.{Action}
+use Rattle.field.specs.declared.tag.Action.the-variants.{Hold, Announce, Withdraw, Update}
+use Rattle.field.specs.declared.tag.Tag.{Tag}
+use Rattle.field.specs.declared.tag.Tag.the-variants.{Unknown, Origin, RouterKey, Aspa}
+use Rattle.field.specs.Origin.{goodOrigin}
+use Rattle.field.specs.RouterKey.{goodRouterKey}
+use Rattle.field.specs.Aspa.{goodAspa, goodUpdate}
+
+-- the three tags of a snapshot
+abbrev pub itemTag : ℕ → Tag
+itemTag tag =
+    cond (eqb tag 0x01) (Origin Hold)
+    (cond (eqb tag 0x02) (RouterKey Hold)
+    (cond (eqb tag 0x03) (Aspa Hold) Unknown))
+
+-- the seven tags of a delta
+abbrev pub changeTag : ℕ → Tag
+changeTag tag =
+    cond (eqb tag 0x11) (Origin Announce)
+    (cond (eqb tag 0x12) (Origin Withdraw)
+    (cond (eqb tag 0x21) (RouterKey Announce)
+    (cond (eqb tag 0x22) (RouterKey Withdraw)
+    (cond (eqb tag 0x31) (Aspa Announce)
+    (cond (eqb tag 0x32) (Aspa Withdraw)
+    (cond (eqb tag 0x33) (Aspa Update) Unknown))))))
+
+unfoldable pub tagOf : Form → ℕ → Tag
+tagOf Snapshot tag = itemTag tag
+tagOf Delta tag = changeTag tag
+
+-- the number of a kind: the snapshot's tag, and the first hex digit of the delta's
+abbrev pub kindNumber : Tag → ℕ
+kindNumber Unknown = 0
+kindNumber (Origin action) = 1
+kindNumber (RouterKey action) = 2
+kindNumber (Aspa action) = 3
+
+-- what fields are ordered by first
+unfoldable pub kindOf : Form → ℕ → ℕ
+kindOf form tag = kindNumber (tagOf form tag)
+
+-- the rule of an ASPA's body
+abbrev pub goodAspaBody : Action → List ℕ → Bool
+goodAspaBody Hold b = goodAspa b
+goodAspaBody Announce b = goodAspa b
+goodAspaBody Withdraw b = goodAspa b
+goodAspaBody Update b = goodUpdate b
+
+-- the rule of a body by what its tag says; no body is good under an unknown tag
+abbrev pub goodTagged : Tag → List ℕ → Bool
+goodTagged Unknown b = false
+goodTagged (Origin action) b = goodOrigin b
+goodTagged (RouterKey action) b = goodRouterKey b
+goodTagged (Aspa action) b = goodAspaBody action b
+
+-- the rule of a body by its tag
+unfoldable pub goodBody : Form → ℕ → List ℕ → Bool
+goodBody form tag b = goodTagged (tagOf form tag) b

@@ -1,0 +1,45 @@
+// Numbers of several bytes: big-endian.
+use order::Ordering;
+use serial::Asn;
+ghost use mathlib.Core.Path.{_≡_};
+ghost use Prim.Native.Nat.{_+_, _≤_, _<_};
+ghost use lib.ListN.{length};
+ghost use Rattle.order.specs.Comparison.{number};
+ghost use Rattle.field.specs.Number.{twoAt, asnAt};
+
+// A byte as a wider number.
+pub fn wide(x: u8) -> usize
+    ensures { λ r. ⌜ (r ≡ x) × (r < 256) ⌝ }
+{
+    x as usize
+}
+
+// The two bytes at i as a number.
+pub fn two_at(s: &[u8], i: usize) -> usize
+    requires { ⌜ i + 2 ≤ length (now s) ⌝ }
+    ensures { λ r. ⌜ (r ≡ twoAt (now (s .entry)) i) × (r < 65536) ⌝ }
+{
+    wide(s[i]) * 256 + wide(s[i + 1])
+}
+
+// The four bytes at i as an AS number.
+pub fn asn_at(s: &[u8], i: usize) -> Asn
+    requires { ⌜ i + 4 ≤ length (now s) ⌝ }
+    ensures { λ r. ⌜ r ≡ asnAt (now (s .entry)) i ⌝ }
+{
+    let n = ((wide(s[i]) * 256 + wide(s[i + 1])) * 256 + wide(s[i + 2])) * 256 + wide(s[i + 3]);
+    Asn(n as u32)
+}
+
+// How one AS number stands to another.
+pub fn asn_compare(a: Asn, b: Asn) -> Ordering
+    ensures { λ r. ⌜ r ≡ number (a .0) (b .0) ⌝ }
+{
+    if a.0 < b.0 {
+        return Ordering::Less;
+    }
+    if b.0 < a.0 {
+        return Ordering::Greater;
+    }
+    Ordering::Equal
+}
