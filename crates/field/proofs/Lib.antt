@@ -8,3 +8,7 @@ pub mod Fronts
 pub mod Fields
 pub mod Keys
 pub mod Judging
+pub mod Run
+pub mod Encode
+pub mod Walk
+pub mod Sizes

@@ -1,0 +1,94 @@
+-- Cells as bytes and back.
+use Prim.Native.Nat.{ℕ, _+_, _*_, _/_, _%_, _<_, _≤_}
+use native.Mathlib.Nat.{div-add-mod'}
+use mathlib.Core.Path.{_≡_, refl, ap, sym, _∙_}
+use mathlib.Core.List.{List, [], _∷_, _++_}
+use mathlib.Core.Bool.{true}
+use native.Mathlib.Omega.{arith}
+use borrow.Author.Tests.{le-leb}
+use mir.Val.{Fits}
+use mir.Syntax.{w8}
+use lib.ListN.{length, getD, length-append}
+use lib.Seq.{take-append-seam, drop-append-seam, getD-append-add}
+use Rattle.order.specs.declared.Ordering.the-variants.{Less}
+use Rattle.order.specs.Comparison.{bytes}
+use Rattle.field.specs.declared.tag.Form.{Form}
+use Rattle.field.specs.declared.verdict.Verdict.the-variants.{Fine}
+use Rattle.field.specs.Tag.{goodBody}
+use Rattle.field.specs.Head.{whole, front}
+use Rattle.field.specs.Verdict.{verdict}
+use Rattle.field.specs.Cells.{Cell, cellKey, cells, field, encode}
+use Rattle.field.proofs.Fronts.{opens}
+use Rattle.field.proofs.Run.{Run, done, more, cells-end, cells-more, fine-run, run-verdict}
+
+-- a field is read as it was written
+pub front-field : (tag : ℕ) (b s : List ℕ) → front (field tag b ++ s) ≡ whole tag b s
+unfolding front field
+front-field tag b s =
+    let w : length b ≤ length (b ++ s) = simp length-append (omega arith) in
+    rw (div-add-mod' (length b) 256, le-leb (length b) (length (b ++ s)) w, take-append-seam b s, drop-append-seam b s)
+
+-- cells are read as they were written
+pub cells-encode : (cs : List Cell) → cells (encode cs) ≡ cs
+unfolding encode
+cells-encode [] = cells-end
+cells-encode (c ∷ cs) =
+    cells-more (field (c .tag) (c .body) ++ encode cs) (c .tag) (c .body) (encode cs) (front-field (c .tag) (c .body) (encode cs))
+    ∙ ap (λ (l : List Cell). c ∷ l) (cells-encode cs)
+
+-- ---- good cells, behind the key k
+
+pub data Ascent (form : Form) : List ℕ → List Cell → Type 0 where
+  none : {k : List ℕ} → Ascent form k []
+  next : {k : List ℕ} {c : Cell} {cs : List Cell} → goodBody form (c .tag) (c .body) ≡ true
+      → bytes k (cellKey form c) ≡ Less → Ascent form (cellKey form c) cs → Ascent form k (c ∷ cs)
+
+-- good cells are a good run when written
+pub ascent-run : (form : Form) {k : List ℕ} {cs : List Cell} → Ascent form k cs → Run form k (encode cs)
+unfolding encode
+ascent-run form none = done
+ascent-run form (next {c = c} {cs = cs} g o a) =
+    more (c .tag) (c .body) (encode cs) (front-field (c .tag) (c .body) (encode cs)) g o (ascent-run form a)
+
+pub ascent-fine : (form : Form) (cs : List Cell) → Ascent form (0 ∷ []) cs → verdict form (encode cs) ≡ Fine
+ascent-fine form cs a = run-verdict form (encode cs) (ascent-run form a)
+
+-- and a good run has good cells
+pub run-ascent : (form : Form) {k s : List ℕ} → Run form k s → Ascent form k (cells s)
+run-ascent form done = rw cells-end none
+run-ascent form (more {s = s} tag b rest e g o r) = rw (cells-more s tag b rest e) (next g o (run-ascent form r))
+
+pub fine-ascent : (form : Form) (s : List ℕ) → verdict form s ≡ Fine → Ascent form (0 ∷ []) (cells s)
+fine-ascent form s e = run-ascent form (fine-run form s e)
+
+-- ---- a run of bytes is written as it was read
+
+-- each element is a byte
+abbrev pub AllBytes : List ℕ → Type 0
+AllBytes s = (i : ℕ) → getD s i 0 < 256
+
+split-high : (h l n : ℕ) → l < 256 → h * 256 + l ≡ n → n / 256 ≡ h
+split-high h l n k e = omega arith
+
+split-low : (h l n : ℕ) → l < 256 → h * 256 + l ≡ n → n % 256 ≡ l
+split-low h l n k e = omega arith
+
+pub field-front : (s : List ℕ) (tag : ℕ) (b rest : List ℕ) → AllBytes s → front s ≡ whole tag b rest → s ≡ field tag b ++ rest
+unfolding field
+field-front s tag b rest bs e =
+    let o = opens s tag b rest e in
+    let k : o .low < 256 = rw (o .bytes) at (bs 2) in
+    rw (split-high (o .high) (o .low) (length b) k (o .size), split-low (o .high) (o .low) (length b) k (o .size)) (o .bytes)
+
+pub rest-bytes : (s : List ℕ) (tag : ℕ) (b rest : List ℕ) → AllBytes s → s ≡ field tag b ++ rest → AllBytes rest
+rest-bytes s tag b rest bs e i = rw (e, getD-append-add (field tag b) rest i 0) at (bs (length (field tag b) + i))
+
+pub encode-cells : (form : Form) {k s : List ℕ} → Run form k s → AllBytes s → encode (cells s) ≡ s
+unfolding encode
+encode-cells form done bs = rw cells-end
+encode-cells form (more {s = s} tag b rest e g o r) bs =
+    let f = field-front s tag b rest bs e in
+    rw (cells-more s tag b rest e) (ap (λ (l : List ℕ). field tag b ++ l) (encode-cells form r (rest-bytes s tag b rest bs f)) ∙ sym f)
+
+pub good-encode : (form : Form) (s : List ℕ) → verdict form s ≡ Fine → ((i : ℕ) → Fits w8 (getD s i 0)) → encode (cells s) ≡ s
+good-encode form s e bs = encode-cells form (fine-run form s e) (λ i. bs i .fits)

@@ -1,0 +1,5 @@
+pub mod Known
+pub mod Back
+pub mod Forth
+pub mod Faithful
+pub mod Counts
