@@ -1,0 +1,3 @@
+pub mod Admitting
+pub mod Sinking
+pub mod Tabling

@@ -38,25 +38,37 @@ valuesSize (Announce n) = partSize n
 valuesSize (Withdraw p) = partSize p
 valuesSize (Update p n) = 2 + partSize p + partSize n
 
+-- a part that lies in s
+pub record Lies (s : Bytes) (p : Part) : Type 0 where
+  pub ordered : p .from ≤ p .to
+  pub within : p .to ≤ length s
+
 -- a list of providers, or nothing: it lies in s
 pub record PartFits (s : Bytes) (p : Part) : Type 0 where
   pub ordered : p .from ≤ p .to
   pub short : p .to - p .from ≤ 16_384
   pub within : p .to ≤ length s
 
-abbrev pub ActFits : Bytes → Bytes → Act → Type 0
-ActFits a b (Announce n) = PartFits b n
-ActFits a b (Withdraw p) = PartFits a p
-ActFits a b (Update p n) = PartFits a p × PartFits b n
+abbrev pub PartsFit : Bytes → Bytes → Act → Type 0
+PartsFit a b (Announce n) = PartFits b n
+PartsFit a b (Withdraw p) = PartFits a p
+PartsFit a b (Update p n) = PartFits a p × PartFits b n
+
+pub record ActFits (a b : Bytes) (act : Act) : Type 0 where
+  pub parts : PartsFit a b act
 
 -- the same of the sizes alone
-abbrev pub PartSized : Part → Type 0
-PartSized p = (p .from ≤ p .to) × (p .to - p .from ≤ 16_384)
+pub record PartSized (p : Part) : Type 0 where
+  pub ordered : p .from ≤ p .to
+  pub short : p .to - p .from ≤ 16_384
 
-abbrev pub ActSized : Act → Type 0
-ActSized (Announce n) = PartSized n
-ActSized (Withdraw p) = PartSized p
-ActSized (Update p n) = PartSized p × PartSized n
+abbrev pub PartsSized : Act → Type 0
+PartsSized (Announce n) = PartSized n
+PartsSized (Withdraw p) = PartSized p
+PartsSized (Update p n) = PartSized p × PartSized n
+
+pub record ActSized (act : Act) : Type 0 where
+  pub parts : PartsSized act
 
 abbrev pub HeldFits : Bytes → Bytes → Held → Type 0
 HeldFits a b Nothing = Unit {0}

@@ -6,10 +6,10 @@ use field::tag::Form;
 ghost use mathlib.Core.Path.{_≡_};
 ghost use mathlib.Core.List.{_∷_, []};
 ghost use Prim.Native.Nat.{_+_, _*_, _/_, _%_, _^_, _≤_, _<_};
-ghost use lib.ListN.{length, set};
+ghost use lib.ListN.{set};
 ghost use lib.Seq.{sets};
 ghost use Rattle.payload.specs.Content.{valuesFor};
-ghost use Rattle.delta.specs.Place.{PartFits, KeyIn, ActFits, ActSized, partIn, partSize, valuesSize, changeIn, itemIn};
+ghost use Rattle.delta.specs.Place.{Lies, PartSized, KeyIn, ActFits, ActSized, partIn, partSize, valuesSize, changeIn, itemIn};
 ghost use Rattle.delta.specs.Write.{Room, tagPlace, plusPlace, plusItem, fieldAs};
 
 // How long an answer is, and how many items it announces and withdraws.
@@ -39,7 +39,7 @@ fn put_two(out: &mut [u8], i: usize, n: usize)
 
 // A part of s at i, as far as there is room.
 pub fn copy(s: &[u8], p: Part, out: &mut [u8], i: usize)
-    requires { ⌜ (p .from ≤ p .to) × (p .to ≤ length (now s)) ⌝ }
+    requires { ⌜ Lies (now s) p ⌝ }
     ensures { λ r. ⌜ now (out .exit) ≡ sets (now (out .entry)) i (partIn (now (s .entry)) p) ⌝ }
 {
     if out.len() <= i {
@@ -60,7 +60,7 @@ pub fn copy(s: &[u8], p: Part, out: &mut [u8], i: usize)
 
 // How many bytes a part has.
 fn part_size(p: Part) -> usize
-    requires { ⌜ p .from ≤ p .to ⌝ }
+    requires { ⌜ PartSized p ⌝ }
     ensures { λ r. ⌜ r ≡ partSize p ⌝ }
 {
     p.to - p.from

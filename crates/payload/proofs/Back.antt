@@ -86,23 +86,38 @@ module _ (b : Bytes) (h : goodUpdate b ≡ true) where
       ∙ ap (λ (t : Bytes). take 4 b ++ t) (sym (d4 ∙ ap (λ (t : Bytes). getD b 4 0 ∷ t) d5))
       ∙ take-append-drop 4 b
 
--- a good field: it is the field of what it says, and that is valid
-pub record Says (form : Form) (tag : ℕ) (b : Bytes) : Type 0 where
-  pub back : cellFor form (entryOf form (cell tag b)) ≡ cell tag b
-  pub valid : Valid form (entryOf form (cell tag b))
-
-says-known : (form : Form) (tag : ℕ) (b : Bytes) → AllBytes b → Known form tag → goodBody form tag b ≡ true → Says form tag b
+-- what a good field says is valid
+valid-known : (form : Form) (tag : ℕ) (b : Bytes) → Known form tag → goodBody form tag b ≡ true → Valid form (entryOf form (cell tag b))
 unfolding goodBody tagOf kindOf keyOf
-says-known Snapshot tag b o known.origin h = record { back = cell-path refl (append-nil b); valid = origin h }
-says-known Snapshot tag b o known.routerKey h = record { back = cell-path refl (append-nil b); valid = routerKey h }
-says-known Snapshot tag b o known.aspa h = record { back = cell-path refl (take-append-drop 4 b); valid = aspa-valid b h }
-says-known Delta tag b o known.announcedOrigin h = record { back = cell-path refl (append-nil b); valid = announced (origin h) }
-says-known Delta tag b o known.withdrawnOrigin h = record { back = cell-path refl (append-nil b); valid = withdrawn (origin h) }
-says-known Delta tag b o known.announcedKey h = record { back = cell-path refl (append-nil b); valid = announced (routerKey h) }
-says-known Delta tag b o known.withdrawnKey h = record { back = cell-path refl (append-nil b); valid = withdrawn (routerKey h) }
-says-known Delta tag b o known.announcedAspa h = record { back = cell-path refl (take-append-drop 4 b); valid = announced (aspa-valid b h) }
-says-known Delta tag b o known.withdrawnAspa h = record { back = cell-path refl (take-append-drop 4 b); valid = withdrawn (aspa-valid b h) }
-says-known Delta tag b o known.updatedAspa h = record { back = cell-path refl (update-back b h o); valid = update-valid b h }
+valid-known Snapshot tag b known.origin h = origin h
+valid-known Snapshot tag b known.routerKey h = routerKey h
+valid-known Snapshot tag b known.aspa h = aspa-valid b h
+valid-known Delta tag b known.announcedOrigin h = announced (origin h)
+valid-known Delta tag b known.withdrawnOrigin h = withdrawn (origin h)
+valid-known Delta tag b known.announcedKey h = announced (routerKey h)
+valid-known Delta tag b known.withdrawnKey h = withdrawn (routerKey h)
+valid-known Delta tag b known.announcedAspa h = announced (aspa-valid b h)
+valid-known Delta tag b known.withdrawnAspa h = withdrawn (aspa-valid b h)
+valid-known Delta tag b known.updatedAspa h = update-valid b h
 
-pub says : (form : Form) (tag : ℕ) (b : Bytes) → AllBytes b → goodBody form tag b ≡ true → Says form tag b
-says form tag b o h = says-known form tag b o (known.known form tag b h) h
+pub says-valid : (form : Form) (tag : ℕ) (b : Bytes) → goodBody form tag b ≡ true → Valid form (entryOf form (cell tag b))
+says-valid form tag b h = valid-known form tag b (known.known form tag b h) h
+
+-- a good field of bytes is the field of what it says
+back-known : (form : Form) (tag : ℕ) (b : Bytes) → AllBytes b → Known form tag → goodBody form tag b ≡ true →
+    cellFor form (entryOf form (cell tag b)) ≡ cell tag b
+unfolding goodBody tagOf kindOf keyOf
+back-known Snapshot tag b o known.origin h = cell-path refl (append-nil b)
+back-known Snapshot tag b o known.routerKey h = cell-path refl (append-nil b)
+back-known Snapshot tag b o known.aspa h = cell-path refl (take-append-drop 4 b)
+back-known Delta tag b o known.announcedOrigin h = cell-path refl (append-nil b)
+back-known Delta tag b o known.withdrawnOrigin h = cell-path refl (append-nil b)
+back-known Delta tag b o known.announcedKey h = cell-path refl (append-nil b)
+back-known Delta tag b o known.withdrawnKey h = cell-path refl (append-nil b)
+back-known Delta tag b o known.announcedAspa h = cell-path refl (take-append-drop 4 b)
+back-known Delta tag b o known.withdrawnAspa h = cell-path refl (take-append-drop 4 b)
+back-known Delta tag b o known.updatedAspa h = cell-path refl (update-back b h o)
+
+pub says-back : (form : Form) (tag : ℕ) (b : Bytes) → AllBytes b → goodBody form tag b ≡ true →
+    cellFor form (entryOf form (cell tag b)) ≡ cell tag b
+says-back form tag b o h = back-known form tag b o (known.known form tag b h) h

@@ -26,13 +26,13 @@ use Rattle.field.proofs.Encode.{AllBytes, Ascent, none, next, ascent-fine, cell
 use Rattle.payload.specs.Content.{Bytes, Content, entryOf, cellFor}
 use Rattle.payload.specs.Valid.{ValidValue, ValidChange, Valid, IsMap, origin, routerKey, aspa, announced, withdrawn, updated}
 use Rattle.payload.specs.Payload.{entries, encode}
-use Rattle.payload.proofs.Back.{Says, says}
+use Rattle.payload.proofs.Back.{says-valid, says-back}
 use Rattle.payload.proofs.Forth.{Good, good}
 
 -- the body of a field of bytes is of bytes
-body-octets : (s : Bytes) (tag : ℕ) (b rest : Bytes) → AllBytes s → s ≡ field tag b ++ rest → AllBytes b
+body-bytes : (s : Bytes) (tag : ℕ) (b rest : Bytes) → AllBytes s → s ≡ field tag b ++ rest → AllBytes b
 unfolding field
-body-octets s tag b rest o e i = go (decLe (length b) i)
+body-bytes s tag b rest o e i = go (decLe (length b) i)
   where
     go : Dec (length b ≤ i) → getD b i 0 < 256
     go (yes l) = rw (List·getD-eq-default b 0 l) (omega arith)
@@ -63,13 +63,12 @@ read form done o =
 read form (more {s = s} tag b rest f g l r) o =
     let w : s ≡ field tag b ++ rest = field-front s tag b rest o f in
     let i : Read form (keyOf (kindOf form tag) b) rest = read form r (rest-bytes s tag b rest o w) in
-    let q : Says form tag b = says form tag b (body-octets s tag b rest o w) g in
     let e = entries-more form s tag b rest f in
     record {
       above = rw e l;
       sorted = rw e (i .above, i .sorted);
-      valid = rw e (q .valid, i .valid);
-      back = rw (e, cells-more s tag b rest f) (ap₂ (λ (c : Cell) (cs : List Cell). c ∷ cs) (q .back) (i .back));
+      valid = rw e (says-valid form tag b g, i .valid);
+      back = rw (e, cells-more s tag b rest f) (ap₂ (λ (c : Cell) (cs : List Cell). c ∷ cs) (says-back form tag b (body-bytes s tag b rest o w) g) (i .back));
     }
 
 -- a valid key stands above the one that stands before each run
