@@ -1,7 +1,7 @@
 -- Cells as bytes and back.
 use Prim.Native.Nat.{ℕ, _+_, _*_, _/_, _%_, _<_, _≤_}
 use native.Mathlib.Nat.{div-add-mod'}
-use mathlib.Core.Path.{_≡_, refl, ap, sym, _∙_}
+use mathlib.Core.Path.{_≡_, ap, sym, _∙_}
 use mathlib.Core.List.{List, [], _∷_, _++_}
 use mathlib.Core.Bool.{true}
 use native.Mathlib.Omega.{arith}
@@ -61,7 +61,7 @@ run-ascent form (more {s = s} tag b rest e g o r) = rw (cells-more s tag b rest 
 pub fine-ascent : (form : Form) (s : List ℕ) → verdict form s ≡ Fine → Ascent form (0 ∷ []) (cells s)
 fine-ascent form s e = run-ascent form (fine-run form s e)
 
--- ---- a run of bytes is written as it was read
+-- ---- bytes
 
 -- each element is a byte
 abbrev pub AllBytes : List ℕ → Type 0
@@ -73,6 +73,7 @@ split-high h l n k e = omega arith
 split-low : (h l n : ℕ) → l < 256 → h * 256 + l ≡ n → n % 256 ≡ l
 split-low h l n k e = omega arith
 
+-- a field of bytes is written as it was read
 pub field-front : (s : List ℕ) (tag : ℕ) (b rest : List ℕ) → AllBytes s → front s ≡ whole tag b rest → s ≡ field tag b ++ rest
 unfolding field
 field-front s tag b rest bs e =
@@ -80,6 +81,7 @@ field-front s tag b rest bs e =
     let k : o .low < 256 = rw (o .bytes) at (bs 2) in
     rw (split-high (o .high) (o .low) (length b) k (o .size), split-low (o .high) (o .low) (length b) k (o .size)) (o .bytes)
 
+-- and so are the bytes behind it
 pub rest-bytes : (s : List ℕ) (tag : ℕ) (b rest : List ℕ) → AllBytes s → s ≡ field tag b ++ rest → AllBytes rest
 rest-bytes s tag b rest bs e i = rw (e, getD-append-add (field tag b) rest i 0) at (bs (length (field tag b) + i))
 
@@ -90,5 +92,6 @@ encode-cells form (more {s = s} tag b rest e g o r) bs =
     let f = field-front s tag b rest bs e in
     rw (cells-more s tag b rest e) (ap (λ (l : List ℕ). field tag b ++ l) (encode-cells form r (rest-bytes s tag b rest bs f)) ∙ sym f)
 
+-- a good run of bytes is written as it was read
 pub good-encode : (form : Form) (s : List ℕ) → verdict form s ≡ Fine → ((i : ℕ) → Fits w8 (getD s i 0)) → encode (cells s) ≡ s
 good-encode form s e bs = encode-cells form (fine-run form s e) (λ i. bs i .fits)

@@ -1,6 +1,6 @@
 -- The field at a place: how the code finds it, and what it says of the bytes.
 use Prim.Native.Nat.{ℕ, suc, _+_, _-_, _<_, _≤_}
-use mathlib.Core.Path.{_≡_, refl, ap, sym, _∙_}
+use mathlib.Core.Path.{_≡_, refl, sym, _∙_}
 use mathlib.Core.List.{List, [], _∷_, _++_}
 use mathlib.Core.Bool.{cond}
 use native.Mathlib.Numerals.{add-one, add-three}
@@ -121,3 +121,7 @@ module _ (s : List ℕ) (at : ℕ) (r : Field) (f : r ≡ fieldAt s at) where
     -- a field takes at least its head
     pub field-long : at + 3 ≤ to
     field-long = let w = whole-at in omega arith
+
+    -- and so less is left behind it
+    pub field-less : length s - to < length s - at
+    field-less = let w = whole-at in omega arith

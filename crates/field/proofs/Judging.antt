@@ -1,6 +1,6 @@
 -- The check of a run of fields as the loop makes it.
 use Prim.Native.Nat.{ℕ, zero, suc, _+_, _-_, _<_, _≤_}
-use mathlib.Core.Path.{_≡_, refl, sym, _∙_}
+use mathlib.Core.Path.{_≡_, refl}
 use mathlib.Core.List.{List}
 use mathlib.Core.Bool.{Bool, true, false, not}
 use native.Mathlib.Omega.{arith}
@@ -13,13 +13,12 @@ use Rattle.field.specs.declared.head.Field.{Field}
 use Rattle.field.specs.declared.head.Field.the-variants.{End, Cut, Whole}
 use Rattle.field.specs.declared.key.Key.{Key}
 use Rattle.field.specs.declared.tag.Form.{Form}
-use Rattle.field.specs.declared.verdict.Verdict.{Verdict}
 use Rattle.field.specs.declared.verdict.Verdict.the-variants.{Fine, Bad, NotAbove}
 use Rattle.field.specs.Tag.{goodBody, kindOf}
 use Rattle.field.specs.Head.{front}
-use Rattle.field.specs.Verdict.{isLess, judge, verdictF, verdict}
+use Rattle.field.specs.Verdict.{judge, verdictF, verdict}
 use Rattle.field.specs.Places.{part, fieldAt, KeyFits, keyIn, keyPlace}
-use Rattle.field.proofs.Fields.{end-at, cut-at, whole-at, body-ordered, body-within}
+use Rattle.field.proofs.Fields.{end-at, cut-at, whole-at, body-ordered, body-within, field-less}
 use Rattle.field.proofs.Keys.{key-fits, key-in}
 
 -- what the check has found at `at`, behind the key k: the rest decides
@@ -103,9 +102,5 @@ module _ (form : Form) (s : List ℕ) (at : ℕ) (k : Key) (j : Judged form s at
 
   pub judged-key : KeyFits s k
   judged-key = j .key
-
--- the walk goes on
-pub field-less : (s : List ℕ) (at : ℕ) (r : Field) (tag from to : ℕ) → r ≡ fieldAt s at → r ≡ Whole tag from to → length s - to < length s - at
-field-less s at r tag from to f e = let w = whole-at s at r f tag from to e in omega arith
 
 pub ruleset judging = (judged-start, judged-end, judged-cut, judged-bad, judged-equal, judged-greater, judged-next, judged-key, field-less, body-ordered, body-within, key-fits)

@@ -4,6 +4,7 @@ pub mod Prefixes
 pub mod Bodies
 pub mod Ascent
 pub mod Tags
+pub mod Digits
 pub mod Fronts
 pub mod Fields
 pub mod Keys
@@ -12,3 +13,4 @@ pub mod Run
 pub mod Encode
 pub mod Walk
 pub mod Sizes
+pub mod Examples

@@ -4,9 +4,15 @@ use mathlib.Core.Path.{_≡_}
 use mathlib.Core.List.{List}
 use lib.ListN.{getD}
 use Rattle.serial.specs.declared.Asn.{Asn}
-use Rattle.field.specs.Number.{four, asnAt}
+use Rattle.field.specs.Number.{two, four, twoAt, asnAt}
 
--- four bytes that were read one by one
+-- two bytes that were read one by one
+pub two-read : (s : List ℕ) (i a b : ℕ) → a ≡ getD s i 0 → b ≡ getD s (i + 1) 0 → two a b ≡ twoAt s i
+two-read s i a b p q = cc
+
+-- four of them
 pub asn-read : (s : List ℕ) (i a b c d : ℕ) → a ≡ getD s i 0 → b ≡ getD s (i + 1) 0 → c ≡ getD s (i + 2) 0 → d ≡ getD s (i + 3) 0
     → _≡_ {A = Asn} (record { 0 = four a b c d }) (asnAt s i)
 asn-read s i a b c d p q r t = λ j. record { 0 = four (p j) (q j) (r j) (t j) }
+
+pub ruleset reading = (two-read, asn-read)

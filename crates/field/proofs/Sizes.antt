@@ -1,8 +1,8 @@
--- How long a good body is: its length always fits the two bytes of a head.
+-- How long a good body is, so that its length fits the two bytes of a head, and the parts of a good ASPA and update.
 use Prim.Native.Nat.{ℕ, _+_, _-_, _/_, _%_, _≤_}
 use mathlib.Core.Path.{_≡_}
 use mathlib.Core.List.{List}
-use mathlib.Core.Bool.{Bool, true, false, _&&_, and-eq-true-iff, false≢true}
+use mathlib.Core.Bool.{Bool, true, _&&_, and-eq-true-iff, false≢true}
 use native.Mathlib.Omega.{arith}
 use borrow.Author.Tests.{leb-true, eqb-true}
 use lib.Dec.{leb, eqb}

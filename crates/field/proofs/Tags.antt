@@ -2,7 +2,7 @@
 use Prim.Native.Nat.{ℕ}
 use mathlib.Core.Path.{_≡_}
 use mathlib.Core.List.{List}
-use mathlib.Core.Bool.{Bool, true, false}
+use mathlib.Core.Bool.{Bool, false}
 use borrow.Author.Tests.{ne-eqb}
 use Rattle.field.specs.declared.tag.Form.{Form}
 use Rattle.field.specs.declared.tag.Form.the-variants.{Snapshot, Delta}

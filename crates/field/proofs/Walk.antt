@@ -1,10 +1,9 @@
 -- A walk over a run that was found good: what the field at a place says of the run from there on.
-use Prim.Native.Nat.{ℕ, _+_, _-_, _<_, _≤_}
-use mathlib.Core.Path.{_≡_, refl}
+use Prim.Native.Nat.{ℕ}
+use mathlib.Core.Path.{_≡_}
 use mathlib.Core.List.{List, [], _∷_}
 use mathlib.Core.Bool.{true}
-use native.Mathlib.Omega.{arith}
-use lib.ListN.{length, drop}
+use lib.ListN.{drop}
 use Rattle.order.specs.declared.Ordering.the-variants.{Less}
 use Rattle.order.specs.Comparison.{bytes}
 use Rattle.field.specs.declared.head.Field.{Field}
@@ -16,7 +15,8 @@ use Rattle.field.specs.Key.{keyOf}
 use Rattle.field.specs.Verdict.{verdict}
 use Rattle.field.specs.Cells.{cells}
 use Rattle.field.specs.Places.{part, fieldAt}
-use Rattle.field.proofs.Fields.{end-at, cut-at, whole-at}
+use Rattle.field.proofs.Fields.{end-at, cut-at, whole-at, body-ordered, body-within, field-long, field-less}
+use Rattle.field.proofs.Keys.{key-fits}
 use Rattle.field.proofs.Run.{Run, fine-run, cells-at-end, cells-more, run-cut, run-whole}
 
 -- the bytes of s from `at` on are a good run, behind some key
@@ -51,3 +51,6 @@ module _ (s : List ℕ) (at : ℕ) (r : Field) (f : r ≡ fieldAt s at) where
 
       pub good-next : GoodAt form s to
       good-next = record { before = keyOf (kindOf form tag) (part s from to); run = here .2 }
+
+-- what a loop over a good run asks
+pub ruleset walking = (good-start, good-end, good-cells, good-cut, good-body, good-above, good-next, body-ordered, body-within, field-long, field-less, key-fits)

@@ -1,7 +1,7 @@
 -- The body of an ASPA: customer 4, then the providers; and of the update of one.
 use Prim.Native.Nat.{ℕ, _+_, _-_, _*_, _/_, _%_}
 use mathlib.Core.List.{List, [], _∷_}
-use mathlib.Core.Bool.{Bool, true, false, _&&_}
+use mathlib.Core.Bool.{Bool, true, _&&_}
 use lib.ListN.{length, take, drop}
 use lib.Dec.{leb, ltb, eqb}
 use Rattle.field.specs.Number.{four, twoAt}
@@ -36,10 +36,11 @@ goodAspa b = leb 4 (length b) && goodProviders (drop 4 b)
 abbrev pub formerSize : List ℕ → ℕ
 formerSize b = twoAt b 4 * 4
 
--- the former providers of an update, and the new ones
+-- the former providers of an update
 abbrev pub formerOf : List ℕ → List ℕ
 formerOf b = take (formerSize b) (drop 6 b)
 
+-- the new providers of an update
 abbrev pub newOf : List ℕ → List ℕ
 newOf b = drop (6 + formerSize b) b
 

@@ -1,20 +1,23 @@
 -- The body of an origin: family, address 16, prefix length, maximum length, AS number 4.
 use Prim.Native.Nat.{ℕ, _-_, _%_, _^_}
 use mathlib.Core.List.{List, [], _∷_}
-use mathlib.Core.Bool.{Bool, true, false, cond, _&&_}
+use mathlib.Core.Bool.{Bool, true, cond, _&&_}
 use lib.ListN.{length, getD, take, drop}
 use lib.Dec.{leb, eqb}
 
--- the parts that have a rule
+-- its first byte
 abbrev pub family : List ℕ → ℕ
 family b = getD b 0 0
 
+-- the 16 bytes behind the family
 abbrev pub address : List ℕ → List ℕ
 address b = take 16 (drop 1 b)
 
+-- the byte behind the address
 abbrev pub prefixLength : List ℕ → ℕ
 prefixLength b = getD b 17 0
 
+-- the byte behind that
 abbrev pub maximumLength : List ℕ → ℕ
 maximumLength b = getD b 18 0
 

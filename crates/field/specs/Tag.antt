@@ -1,7 +1,7 @@
 -- Tags: the kind of a field's item, what a delta does with it, and the rule of its body.
 use Prim.Native.Nat.{ℕ}
 use mathlib.Core.List.{List}
-use mathlib.Core.Bool.{Bool, true, false, cond}
+use mathlib.Core.Bool.{Bool, false, cond}
 use lib.Dec.{eqb}
 use Rattle.field.specs.declared.tag.Form.{Form}
 use Rattle.field.specs.declared.tag.Form.the-variants.{Snapshot, Delta}
@@ -31,6 +31,7 @@ changeTag tag =
     (cond (eqb tag 0x32) (Aspa Withdraw)
     (cond (eqb tag 0x33) (Aspa Update) Unknown))))))
 
+-- what a tag says
 unfoldable pub tagOf : Form → ℕ → Tag
 tagOf Snapshot tag = itemTag tag
 tagOf Delta tag = changeTag tag

@@ -13,6 +13,7 @@ use Rattle.field.specs.Tag.{goodBody, kindOf}
 use Rattle.field.specs.Head.{Front, end, cut, whole, front}
 use Rattle.field.specs.Key.{keyOf}
 
+-- the first stands below the second
 abbrev pub isLess : Ordering → Bool
 isLess Less = true
 isLess Equal = false

@@ -19,7 +19,9 @@ pub fn two_at(s: &[u8], i: usize) -> usize
     requires { ⌜ i + 2 ≤ length (now s) ⌝ }
     ensures { λ r. ⌜ (r ≡ twoAt (now (s .entry)) i) × (r < 65536) ⌝ }
 {
-    wide(s[i]) * 256 + wide(s[i + 1])
+    let high = wide(s[i]);
+    let low = wide(s[i + 1]);
+    high * 256 + low
 }
 
 // The four bytes at i as an AS number.
@@ -27,7 +29,11 @@ pub fn asn_at(s: &[u8], i: usize) -> Asn
     requires { ⌜ i + 4 ≤ length (now s) ⌝ }
     ensures { λ r. ⌜ r ≡ asnAt (now (s .entry)) i ⌝ }
 {
-    let n = ((wide(s[i]) * 256 + wide(s[i + 1])) * 256 + wide(s[i + 2])) * 256 + wide(s[i + 3]);
+    let a = wide(s[i]);
+    let b = wide(s[i + 1]);
+    let c = wide(s[i + 2]);
+    let d = wide(s[i + 3]);
+    let n = ((a * 256 + b) * 256 + c) * 256 + d;
     Asn(n as u32)
 }
 

@@ -4,7 +4,7 @@ use crate::aspa::update_ok;
 use crate::origin::origin_ok;
 use crate::router_key::router_key_ok;
 ghost use mathlib.Core.Path.{_≡_};
-ghost use Rattle.field.specs.Tag.{itemTag, changeTag, tagOf, kindNumber, kindOf, goodAspaBody, goodTagged, goodBody};
+ghost use Rattle.field.specs.Tag.{itemTag, changeTag, tagOf, kindOf, goodAspaBody, goodBody};
 
 // The runs of fields that there are.
 pub enum Form {
