@@ -1,3 +1,9 @@
 pub mod Admitting
 pub mod Sinking
+pub mod Putting
 pub mod Tabling
+pub mod Readings
+pub mod Places
+pub mod Entries
+pub mod Turning
+pub mod Walking

@@ -86,7 +86,7 @@ module _ (s o₀ : Bytes) (i room from n : ℕ) (o : Bytes) (k : ℕ) (c : Copie
         let e : from + (k + 1) ≡ suc (from + k) = omega arith in
         let f : i + (k + 1) ≡ suc (i + k) = omega arith in
         let z : take (n - k) (drop (from + k) s) ≡ getD s (from + k) 0 ∷ take (n - (k + 1)) (drop (from + (k + 1)) s)
-            = rw (d, e, drop-cons s (from + k) 0 copied-from) in
+        = rw (d, e, drop-cons s (from + k) 0 copied-from) in
         record {
           within = c .within;
           rooms = c .rooms;
@@ -203,10 +203,10 @@ module _ (a b : Bytes) (act : Act) (f : ActFits a b act) where
         let c : countOf (partIn a p) ≡ size / 4 / 256 ∷ size / 4 % 256 ∷ [] = ap (λ (m : ℕ). m / 4 / 256 ∷ m / 4 % 256 ∷ []) k in
         let w : sets o i (countOf (partIn a p)) ≡ q = ap (sets o i) c ∙ sym x in
         rw e (z ∙ sym (
-          sets-append (countOf (partIn a p)) (partIn a p ++ partIn b n) o i
-          ∙ ap (λ (v : Bytes). sets v (i + 2) (partIn a p ++ partIn b n)) w
-          ∙ sets-append (partIn a p) (partIn b n) q (i + 2)
-          ∙ rw (← y, k)
+        sets-append (countOf (partIn a p)) (partIn a p ++ partIn b n) o i
+        ∙ ap (λ (v : Bytes). sets v (i + 2) (partIn a p ++ partIn b n)) w
+        ∙ sets-append (partIn a p) (partIn b n) q (i + 2)
+        ∙ rw (← y, k)
         ))
 
 pub put-announce : (a b : Bytes) (act : Act) (o : Bytes) (i : ℕ) (n : Part) (q : Bytes) → act ≡ Announce n → q ≡ sets o i (partIn b n) →

@@ -73,3 +73,27 @@ module _ (a : Bytes) (x : Act) (b : Bytes) (y : Act) (f : ActFits a a x × ActFi
 pub ruleset replacing = (replaced-same, replaced-other, inl, inr)
 
 pub ruleset tabling = (fits-announce, fits-withdraw, fits-former, fits-new, announce-announce, announce-withdraw, announce-update, withdraw-announce, withdraw-withdraw, withdraw-update, update-announce, update-withdraw, update-update)
+
+-- whatever the two changes are, something is held: the table's outcome lies in a and b
+pub record Outcomes (a b : Bytes) (o : Option (Change Bytes)) : Type 0 where
+  pub held : Held
+  pub holds : Holds a b o held
+
+replace-held : (a : Bytes) (p : Part) (b : Bytes) (n : Part) → PartFits a p → PartFits b n → Outcomes a b (replace bytes (partIn a p) (partIn b n))
+replace-held a p b n f g = go (bytes (partIn a p) (partIn b n)) refl
+  where
+    go : (o : Ordering) → o ≡ bytes (partIn a p) (partIn b n) → Outcomes a b (replace bytes (partIn a p) (partIn b n))
+    go Less c = record { held = Is (Update p n); holds = replaced-other a p b n Less c (f, g) (inl refl) }
+    go Equal c = record { held = Nothing; holds = replaced-same a p b n Equal c refl }
+    go Greater c = record { held = Is (Update p n); holds = replaced-other a p b n Greater c (f, g) (inr refl) }
+
+pub table-held : (a : Bytes) (x : Act) (b : Bytes) (y : Act) → ActFits a a x → ActFits b b y → Outcomes a b (table bytes (changeIn a a x) (changeIn b b y))
+table-held a (Announce m) b (Announce n) f g = record { held = Is (Announce n); holds = record { fits = record { parts = g .parts }; is = refl } }
+table-held a (Announce m) b (Withdraw q) f g = record { held = Nothing; holds = record { fits = tt; is = refl } }
+table-held a (Announce m) b (Update q n) f g = record { held = Is (Announce n); holds = record { fits = record { parts = g .parts .1 }; is = refl } }
+table-held a (Withdraw p) b (Announce n) f g = replace-held a p b n (f .parts) (g .parts)
+table-held a (Withdraw p) b (Withdraw q) f g = record { held = Is (Withdraw p); holds = record { fits = record { parts = f .parts }; is = refl } }
+table-held a (Withdraw p) b (Update q n) f g = replace-held a p b n (f .parts) (g .parts .1)
+table-held a (Update p m) b (Announce n) f g = record { held = Is (Update p n); holds = record { fits = record { parts = (f .parts .0, g .parts) }; is = refl } }
+table-held a (Update p m) b (Withdraw q) f g = record { held = Is (Withdraw p); holds = record { fits = record { parts = f .parts .0 }; is = refl } }
+table-held a (Update p m) b (Update q n) f g = replace-held a p b n (f .parts .0) (g .parts .1)

@@ -32,6 +32,9 @@ abbrev pub heldIn : Bytes → Bytes → Held → Option (Change Bytes)
 heldIn a b Nothing = none
 heldIn a b (Is act) = some (changeIn a b act)
 
+abbrev pub keySize : Key → ℕ
+keySize k = k .to - k .from
+
 -- how many bytes the values of a change take in a body
 abbrev pub valuesSize : Act → ℕ
 valuesSize (Announce n) = partSize n

@@ -53,11 +53,15 @@ actPlace reading action.Withdraw s v = Withdraw v
 actPlace reading action.Update s v = splitPlace s v
 
 -- the former providers of an update end within its values
+pub record SplitFits (s : Bytes) (v : Part) : Type 0 where
+  pub ends : middle s v ≤ v .to
+  pub within : v .to ≤ length s
+
 abbrev pub Splits : Action → Bytes → Part → Type 0
 Splits action.Hold s v = Unit {0}
 Splits action.Announce s v = Unit {0}
 Splits action.Withdraw s v = Unit {0}
-Splits action.Update s v = (middle s v ≤ v .to) × (v .to ≤ length s)
+Splits action.Update s v = SplitFits s v
 
 -- the bytes of s from `at` on are a good run
 pub record Ready (reading : Reading) (s : Bytes) (at : ℕ) : Type 0 where

@@ -16,9 +16,12 @@ use Rattle.delta.specs.Reading.{readAs, Reads}
 
 module _ (ra : Reading) (a : Bytes) (i : ℕ) (rb : Reading) (b : Bytes) (j : ℕ) where
   -- one side has run out: the other still has fields; the lower key goes first; both have it
-  abbrev pub TurnIs : Turn → Type 0
-  TurnIs (Over side.Left) = readAs rb (drop j b) ≡ []
-  TurnIs (Over side.Right) = readAs ra (drop i a) ≡ []
-  TurnIs (Left x) = Reads ra a i (One x) × Below bytes (keyIn a (x .key)) (readAs rb (drop j b))
-  TurnIs (Right y) = Reads rb b j (One y) × Below bytes (keyIn b (y .key)) (readAs ra (drop i a))
-  TurnIs (Both x y) = Reads ra a i (One x) × Reads rb b j (One y) × (keyIn a (x .key) ≡ keyIn b (y .key))
+  abbrev pub TurnMeans : Turn → Type 0
+  TurnMeans (Over side.Left) = readAs rb (drop j b) ≡ []
+  TurnMeans (Over side.Right) = readAs ra (drop i a) ≡ []
+  TurnMeans (Left x) = Reads ra a i (One x) × Below bytes (keyIn a (x .key)) (readAs rb (drop j b))
+  TurnMeans (Right y) = Reads rb b j (One y) × Below bytes (keyIn b (y .key)) (readAs ra (drop i a))
+  TurnMeans (Both x y) = Reads ra a i (One x) × Reads rb b j (One y) × (keyIn a (x .key) ≡ keyIn b (y .key))
+
+  pub record TurnIs (r : Turn) : Type 0 where
+    pub is : TurnMeans r

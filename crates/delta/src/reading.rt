@@ -12,12 +12,8 @@ use field::tag::Tag;
 use field::tag::kind_of;
 use field::tag::tag_of;
 ghost use mathlib.Core.Path.{_≡_};
-ghost use Prim.Native.Nat.{_+_, _*_, _≤_};
-ghost use lib.ListN.{length};
-ghost use Rattle.field.specs.Number.{twoAt};
-ghost use Rattle.field.specs.Tag.{tagOf};
 ghost use Rattle.payload.specs.Content.{actionOf};
-ghost use Rattle.delta.specs.Reading.{formOf, heldPlace, actPlace, splitPlace, Splits, Ready, Reads};
+ghost use Rattle.delta.specs.Reading.{formOf, heldPlace, actPlace, splitPlace, SplitFits, Splits, Ready, Reads};
 
 pub enum Reading {
     Withdrawn,
@@ -53,7 +49,7 @@ fn action_of(tag: Tag) -> Action
 
 // The values of an update: a count of former providers, those, then the new ones.
 fn split(s: &[u8], values: Part) -> Act
-    requires { ⌜ (values .from + 2 + twoAt (now s) (values .from) * 4 ≤ values .to) × (values .to ≤ length (now s)) ⌝ }
+    requires { ⌜ SplitFits (now s) values ⌝ }
     ensures { λ r. ⌜ r ≡ splitPlace (now (s .entry)) values ⌝ }
 {
     let from = values.from;

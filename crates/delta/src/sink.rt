@@ -9,7 +9,7 @@ ghost use Prim.Native.Nat.{_+_, _*_, _/_, _%_, _^_, _≤_, _<_};
 ghost use lib.ListN.{set};
 ghost use lib.Seq.{sets};
 ghost use Rattle.payload.specs.Content.{valuesFor};
-ghost use Rattle.delta.specs.Place.{Lies, PartSized, KeyIn, ActFits, ActSized, partIn, partSize, valuesSize, changeIn, itemIn};
+ghost use Rattle.delta.specs.Place.{Lies, PartSized, KeyIn, ActFits, ActSized, partIn, partSize, keySize, valuesSize, changeIn, itemIn};
 ghost use Rattle.delta.specs.Write.{Room, tagPlace, plusPlace, plusItem, fieldAs};
 
 // How long an answer is, and how many items it announces and withdraws.
@@ -134,7 +134,33 @@ fn plus(counts: Counts, act: Act, size: usize) -> Counts
     }
 }
 
-// The field of an item, behind what was written so far: its key and former value lie in a, its new value in b.
+// A field's head at i.
+fn put_head(out: &mut [u8], i: usize, tag: u8, size: usize)
+    requires { ⌜ (i < 2 ^ 62) × (size < 65536) ⌝ }
+    ensures { λ r. ⌜ now (out .exit) ≡ sets (now (out .entry)) i (tag ∷ size / 256 ∷ size % 256 ∷ []) ⌝ }
+{
+    put_byte(out, i, tag);
+    put_two(out, i + 1, size);
+}
+
+// The field of an item at i, and its size: its key and former value lie in a, its new value in b.
+fn put_field(form: Form, a: &[u8], key: Key, act: Act, b: &[u8], out: &mut [u8], i: usize) -> usize
+    requires { ⌜ KeyIn (now a) key × (ActFits (now a) (now b) act × (i < 2 ^ 62)) ⌝ }
+    ensures { λ r. ⌜ (r ≡ 3 + (keySize key + valuesSize act)) × (now (out .exit) ≡ sets (now (out .entry)) i (fieldAs form (itemIn (now (a .entry)) (now (b .entry)) key act))) ⌝ }
+{
+    let name = Part {
+        from: key.from,
+        to: key.to,
+    };
+    let behind = part_size(name);
+    let size = behind + values_size(act);
+    put_head(out, i, tag_as(form, key.kind, act), size);
+    copy(a, name, out, i + 3);
+    put_values(a, act, b, out, i + 3 + behind);
+    3 + size
+}
+
+// The field of an item, behind what was written so far.
 pub fn put_item(
     form: Form,
     a: &[u8],
@@ -147,16 +173,6 @@ pub fn put_item(
     requires { ⌜ KeyIn (now a) key × (ActFits (now a) (now b) act × Room counts) ⌝ }
     ensures { λ r. ⌜ (r ≡ plusItem form counts (itemIn (now (a .entry)) (now (b .entry)) key act)) × (now (out .exit) ≡ sets (now (out .entry)) (counts .len) (fieldAs form (itemIn (now (a .entry)) (now (b .entry)) key act))) ⌝ }
 {
-    let at = counts.len;
-    let name = Part {
-        from: key.from,
-        to: key.to,
-    };
-    let behind = part_size(name);
-    let size = behind + values_size(act);
-    put_byte(out, at, tag_as(form, key.kind, act));
-    put_two(out, at + 1, size);
-    copy(a, name, out, at + 3);
-    put_values(a, act, b, out, at + 3 + behind);
-    plus(counts, act, 3 + size)
+    let size = put_field(form, a, key, act, b, out, counts.len);
+    plus(counts, act, size)
 }

@@ -22,7 +22,7 @@ ghost use Rattle.change.specs.Merge.{merge};
 ghost use Rattle.delta.specs.Place.{itemIn};
 ghost use Rattle.delta.specs.Reading.{readAs, Ready};
 ghost use Rattle.delta.specs.Write.{Room, plusItem, plusAll, fieldAs, writes, zero};
-ghost use Rattle.delta.specs.Walk.{EntryIn, bothOf, Passed};
+ghost use Rattle.delta.specs.Walk.{EntryIn, bothOf, Passed, StepIs};
 
 // An item that one side alone has.
 fn put_one(form: Form, s: &[u8], x: Entry, out: &mut [u8], counts: Counts) -> Counts
@@ -79,6 +79,46 @@ fn put_rest(
     }
 }
 
+// Where the walk stands after a turn.
+pub enum Step {
+    // One side has run out; this one may still have fields.
+    Over(Side),
+    // Both places, and what was counted.
+    On(usize, usize, Counts),
+}
+
+// One turn, written.
+fn put_turn(
+    form: Form,
+    ra: Reading,
+    a: &[u8],
+    i: usize,
+    rb: Reading,
+    b: &[u8],
+    j: usize,
+    out: &mut [u8],
+    counts: Counts,
+) -> Step
+    requires { ⌜ Ready ra (now a) i × (Ready rb (now b) j × Room counts) ⌝ }
+    ensures { λ r. ⌜ StepIs form ra (now (a .entry)) i rb (now (b .entry)) j counts (now (out .entry)) (now (out .exit)) r ⌝ }
+{
+    match take_turn(ra, a, i, rb, b, j) {
+        Turn::Over(side) => Step::Over(side),
+        Turn::Left(x) => {
+            let sum = put_one(form, a, x, out, counts);
+            Step::On(x.next, j, sum)
+        }
+        Turn::Right(y) => {
+            let sum = put_one(form, b, y, out, counts);
+            Step::On(i, y.next, sum)
+        }
+        Turn::Both(x, y) => {
+            let sum = put_both(form, a, x, b, y, out, counts);
+            Step::On(x.next, y.next, sum)
+        }
+    }
+}
+
 // The merge of two runs, as far as out has room; its counts whether it has room or not.
 pub fn put_merge(form: Form, ra: Reading, a: &[u8], rb: Reading, b: &[u8], out: &mut [u8]) -> Counts
     requires { ⌜ Ready ra (now a) 0 × (Ready rb (now b) 0 × ((length (now a) ≤ 33554432) × (length (now b) ≤ 33554432))) ⌝ }
@@ -92,25 +132,17 @@ pub fn put_merge(form: Form, ra: Reading, a: &[u8], rb: Reading, b: &[u8], out: 
         withdrawn: 0,
     };
     let side = loop {
-        match take_turn(ra, a, i, rb, b, j) {
-            Turn::Over(side) => break side,
-            Turn::Left(x) => {
-                counts = put_one(form, a, x, out, counts);
-                i = x.next;
-            }
-            Turn::Right(y) => {
-                counts = put_one(form, b, y, out, counts);
-                j = y.next;
-            }
-            Turn::Both(x, y) => {
-                counts = put_both(form, a, x, b, y, out, counts);
-                i = x.next;
-                j = y.next;
+        match put_turn(form, ra, a, i, rb, b, j, out, counts) {
+            Step::Over(side) => break side,
+            Step::On(p, q, sum) => {
+                i = p;
+                j = q;
+                counts = sum;
             }
         }
     };
-    match side {
-        Side::Left => put_rest(form, ra, a, i, out, counts),
-        Side::Right => put_rest(form, rb, b, j, out, counts),
+    if let Side::Left = side {
+        return put_rest(form, ra, a, i, out, counts);
     }
+    put_rest(form, rb, b, j, out, counts)
 }
