@@ -17,7 +17,7 @@ use Rattle.field.specs.Tag.{tagOf, kindOf, goodBody}
 use Rattle.field.specs.Key.{keyOf}
 use Rattle.field.specs.Cells.{Cell}
 use Rattle.field.specs.Places.{part, fieldAt, keyIn, keyPlace}
-use Rattle.field.proofs.Fields.{body-ordered, body-within, field-long}
+use Rattle.field.proofs.Fields.{whole-at, body-ordered, body-within, field-long}
 use Rattle.field.proofs.Keys.{key-fits, key-in}
 use Rattle.field.proofs.Walk.{GoodAt, good-end, good-cells, good-cut, good-body, good-next}
 use Rattle.payload.specs.Content.{Bytes, actionOf}
@@ -28,9 +28,9 @@ use Rattle.delta.specs.declared.reading.Reading.the-variants.{Withdrawn,
 use Rattle.delta.specs.declared.reading.Read.{Read}
 use Rattle.delta.specs.declared.reading.Read.the-variants as read
 use Rattle.delta.specs.Place.{changeIn, itemIn, KeyIn, ActFits}
-use Rattle.delta.specs.Reading.{formOf, readAs, actPlace, Splits, Ready, EntryFits, Reads}
-use Rattle.delta.proofs.Readings.{itemAs, says-nil, says-cons}
-use Rattle.delta.proofs.Places.{Entered, entered}
+use Rattle.delta.specs.Reading.{itemAs, formOf, readAs, actPlace, Splits, Ready, EntryFits, Reads}
+use Rattle.delta.proofs.Readings.{says-nil, says-cons}
+use Rattle.delta.proofs.Places.{body-length, Entered, entered}
 
 -- the key of a field's item is the key of its cell
 key-as : (reading : Reading) (c : Cell) → itemAs reading c .key ≡ keyOf (kindOf (formOf reading) (c .tag)) (c .body)
@@ -43,7 +43,7 @@ item-path p q = λ i. record { key = p i; val = q i }
 
 module _ (reading : Reading) (s : Bytes) (at : ℕ) (g : Ready reading s at) (r : Field) (f : r ≡ fieldAt s at) where
   pub read-end : r ≡ End → Reads reading s at read.End
-  read-end e = record { fits = tt; is = says-nil (drop at s) reading (good-end s at r f e) }
+  read-end e = record { fits = good-end s at r f e; is = says-nil (drop at s) reading (good-end s at r f e) }
 
   pub read-cut : r ≡ Cut → Reads reading s at read.End
   read-cut e = absurd (good-cut s at r f (formOf reading) (g .good) e)
@@ -89,6 +89,12 @@ module _ (reading : Reading) (s : Bytes) (at : ℕ) (g : Ready reading s at) (r 
                 short = rw place-is (said .short);
               };
               act = rw act-is (said .fits);
+              field = record {
+                cell = c;
+                front = good-cells s at r f tag from to e;
+                next = let b = o in omega (arith, body-length s from to o w, whole-at s at r f tag from to e .start);
+                says = item-path key-is change-is;
+              };
               ahead = omega (arith, field-long s at r f tag from to e);
               ready = record { good = good-next s at r f (formOf reading) (g .good) tag from to e; within = w };
             };

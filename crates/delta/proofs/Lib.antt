@@ -7,3 +7,4 @@ pub mod Places
 pub mod Entries
 pub mod Turning
 pub mod Walking
+pub mod Fitting

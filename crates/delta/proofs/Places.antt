@@ -22,8 +22,7 @@ use Rattle.delta.specs.declared.place.Act.the-variants.{Announce, Withdr
 use Rattle.delta.specs.declared.reading.Reading.{Reading}
 use Rattle.delta.specs.declared.reading.Reading.the-variants.{Withdrawn, Announced, Changes}
 use Rattle.delta.specs.Place.{partIn, changeIn, PartFits, ActFits}
-use Rattle.delta.specs.Reading.{formOf, middle, splitPlace, actPlace, SplitFits, Splits}
-use Rattle.delta.proofs.Readings.{itemAs}
+use Rattle.delta.specs.Reading.{itemAs, formOf, middle, splitPlace, actPlace, SplitFits, Splits}
 
 drop-take : (i m : ℕ) (l : Bytes) → drop i (take m l) ≡ take (m - i) (drop i l)
 drop-take zero m l = let e : m - 0 ≡ m = omega arith in rw e

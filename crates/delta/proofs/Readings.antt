@@ -43,7 +43,7 @@ use Rattle.delta.specs.declared.reading.Reading.the-variants.{Withdrawn,
 use Rattle.delta.specs.declared.reading.Read.{Read}
 use Rattle.delta.specs.declared.reading.Read.the-variants as read
 use Rattle.delta.specs.Place.{partIn, partSize, changeIn, itemIn, PartFits, ActFits, KeyIn}
-use Rattle.delta.specs.Reading.{formOf, readAs, heldPlace, middle, splitPlace, actPlace, SplitFits, Splits, Ready, EntryFits, ReadFits, readIs, Reads}
+use Rattle.delta.specs.Reading.{itemAs, formOf, readAs, heldPlace, middle, splitPlace, actPlace, SplitFits, Splits, Ready, EntryFits, ReadFits, readIs, Reads}
 
 -- ---- the small functions
 
@@ -92,12 +92,6 @@ module _ (s : Bytes) where
   says-nil Withdrawn e = rw (entries-nil form.Snapshot e) (diff-gone bytes bytes [])
   says-nil Announced e = rw (entries-nil form.Snapshot e) (diff-new bytes bytes [])
   says-nil Changes e = entries-nil form.Delta e
-
--- a field's item, as a reading has it
-abbrev pub itemAs : Reading → Cell → Item Bytes (Change Bytes)
-itemAs Withdrawn c = asGone (entryOf form.Snapshot c)
-itemAs Announced c = asNew (entryOf form.Snapshot c)
-itemAs Changes c = entryOf form.Delta c
 
 module _ (s : Bytes) (c : Cell) (rest : Bytes) where
   entries-cons : (f : Form) → cells s ≡ c ∷ cells rest → entries f s ≡ entryOf f c ∷ entries f rest

@@ -4,14 +4,17 @@ use mathlib.Core.Path.{_≡_}
 use mathlib.Core.List.{List, [], _∷_}
 use lib.ListN.{length, drop}
 use Rattle.order.specs.Comparison.{bytes}
+use Rattle.order.specs.Map.{Item}
+use Rattle.change.specs.Change.{Change, announce, withdraw}
 use Rattle.change.specs.Difference.{Delta, diff}
 use Rattle.field.specs.declared.tag.Form.{Form}
 use Rattle.field.specs.declared.tag.Form.the-variants as form
 use Rattle.field.specs.declared.tag.Action.{Action}
 use Rattle.field.specs.declared.tag.Action.the-variants as action
 use Rattle.field.specs.Number.{twoAt}
+use Rattle.field.specs.Cells.{Cell, cells}
 use Rattle.field.proofs.Walk.{GoodAt}
-use Rattle.payload.specs.Content.{Bytes}
+use Rattle.payload.specs.Content.{Bytes, entryOf}
 use Rattle.payload.specs.Payload.{items, changes}
 use Rattle.delta.specs.declared.place.Part.{Part}
 use Rattle.delta.specs.declared.place.Act.{Act}
@@ -68,15 +71,29 @@ pub record Ready (reading : Reading) (s : Bytes) (at : ℕ) : Type 0 where
   pub good : GoodAt (formOf reading) s at
   pub within : at ≤ length s
 
+-- a field's item, as a reading has it
+abbrev pub itemAs : Reading → Cell → Item Bytes (Change Bytes)
+itemAs Withdrawn c = record { key = entryOf form.Snapshot c .key; val = withdraw (entryOf form.Snapshot c .val) }
+itemAs Announced c = record { key = entryOf form.Snapshot c .key; val = announce (entryOf form.Snapshot c .val) }
+itemAs Changes c = entryOf form.Delta c
+
+-- the field of s at `at`, as an item
+pub record FieldIs (reading : Reading) (s : Bytes) (at : ℕ) (e : Entry) : Type 0 where
+  pub cell : Cell
+  pub front : cells (drop at s) ≡ cell ∷ cells (drop (e .next) s)
+  pub next : e .next ≡ at + 3 + length (cell .body)
+  pub says : itemIn s s (e .key) (e .act) ≡ itemAs reading cell
+
 -- an item of s, and where the run goes on
 pub record EntryFits (reading : Reading) (s : Bytes) (at : ℕ) (e : Entry) : Type 0 where
   pub key : KeyIn s (e .key)
   pub act : ActFits s s (e .act)
+  pub field : FieldIs reading s at e
   pub ahead : at < e .next
   pub ready : Ready reading s (e .next)
 
 abbrev pub ReadFits : Reading → Bytes → ℕ → Read → Type 0
-ReadFits reading s at End = Unit {0}
+ReadFits reading s at End = cells (drop at s) ≡ []
 ReadFits reading s at (One e) = EntryFits reading s at e
 
 -- what stands at `at` is the first of what the run says from there on

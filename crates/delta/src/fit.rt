@@ -125,8 +125,8 @@ pub fn first_misfit(snapshot: &[u8], delta: &[u8]) -> Fit
             }
         }
     };
-    match side {
-        Side::Left => Fit::All,
-        Side::Right => fit_rest(delta, j),
+    if let Side::Left = side {
+        return Fit::All;
     }
+    fit_rest(delta, j)
 }

@@ -49,27 +49,27 @@ pub entries-more : (form : Form) (s : Bytes) (tag : ℕ) (b rest : Bytes) → fr
 unfolding entries
 entries-more form s tag b rest e = ap (map (entryOf form)) (cells-more s tag b rest e)
 
--- a good run, read: above the key before it, ascending and valid, and its cells are those of what they say
-record Read (form : Form) (k s : Bytes) : Type 0 where
-  above : Below bytes k (entries form s)
-  sorted : Sorted bytes (entries form s)
-  valid : All (Valid form) (entries form s)
-  back : map (cellFor form) (entries form s) ≡ cells s
+-- a good run, read: above the key before it, ascending and valid
+pub record Read (form : Form) (k s : Bytes) : Type 0 where
+  pub above : Below bytes k (entries form s)
+  pub sorted : Sorted bytes (entries form s)
+  pub valid : All (Valid form) (entries form s)
 
-read : (form : Form) {k s : Bytes} → Run form k s → AllBytes s → Read form k s
-read form done o =
-    let e = entries-end form in
-    record { above = rw e tt; sorted = rw e tt; valid = rw e tt; back = rw (e, cells-end) }
-read form (more {s = s} tag b rest f g l r) o =
-    let w : s ≡ field tag b ++ rest = field-front s tag b rest o f in
-    let i : Read form (keyOf (kindOf form tag) b) rest = read form r (rest-bytes s tag b rest o w) in
+pub read : (form : Form) {k s : Bytes} → Run form k s → Read form k s
+read form done = let e = entries-end form in record { above = rw e tt; sorted = rw e tt; valid = rw e tt }
+read form (more {s = s} tag b rest f g l r) =
+    let i : Read form (keyOf (kindOf form tag) b) rest = read form r in
     let e = entries-more form s tag b rest f in
-    record {
-      above = rw e l;
-      sorted = rw e (i .above, i .sorted);
-      valid = rw e (says-valid form tag b g, i .valid);
-      back = rw (e, cells-more s tag b rest f) (ap₂ (λ (c : Cell) (cs : List Cell). c ∷ cs) (says-back form tag b (body-bytes s tag b rest o w) g) (i .back));
-    }
+    record { above = rw e l; sorted = rw e (i .above, i .sorted); valid = rw e (says-valid form tag b g, i .valid) }
+
+-- and its cells are those of what they say
+cells-back : (form : Form) {k s : Bytes} → Run form k s → AllBytes s → map (cellFor form) (entries form s) ≡ cells s
+cells-back form done o = rw (entries-end form, cells-end)
+cells-back form (more {s = s} tag b rest f g l r) o =
+    let w : s ≡ field tag b ++ rest = field-front s tag b rest o f in
+    rw (entries-more form s tag b rest f, cells-more s tag b rest f)
+    (ap₂ (λ (c : Cell) (cs : List Cell). c ∷ cs) (says-back form tag b (body-bytes s tag b rest o w) g)
+    (cells-back form r (rest-bytes s tag b rest o w)))
 
 -- a valid key stands above the one that stands before each run
 lowest-value : {k v : Bytes} → ValidValue k v → bytes (0 ∷ []) k ≡ Less
@@ -108,7 +108,7 @@ module _ (form : Form) where
 
 -- bytes and maps are one: reading good bytes gives a map, whose bytes they are; writing a map gives good bytes, which say it
 pub record Faithful (form : Form) : Type 0 where
-  pub map-of : (s : Bytes) → AllBytes s → verdict form s ≡ Fine → IsMap form (entries form s)
+  pub map-of : (s : Bytes) → verdict form s ≡ Fine → IsMap form (entries form s)
   pub bytes-back : (s : Bytes) → AllBytes s → verdict form s ≡ Fine → encode form (entries form s) ≡ s
   pub good-bytes : (xs : List (Item Bytes (Content form))) → IsMap form xs → verdict form (encode form xs) ≡ Fine
   pub map-back : (xs : List (Item Bytes (Content form))) → IsMap form xs → entries form (encode form xs) ≡ xs
@@ -117,8 +117,8 @@ pub faithful : (form : Form) → Faithful form
 unfolding encode entries
 faithful form =
     record {
-      map-of = λ s o e. let r = read form (fine-run form s e) o in record { sorted = r .sorted; valid = r .valid };
-      bytes-back = λ s o e. let r = read form (fine-run form s e) o in ap run.encode (r .back) ∙ encode-cells form (fine-run form s e) o;
+      map-of = λ s e. let r = read form (fine-run form s e) in record { sorted = r .sorted; valid = r .valid };
+      bytes-back = λ s o e. ap run.encode (cells-back form (fine-run form s e) o) ∙ encode-cells form (fine-run form s e) o;
       good-bytes = λ xs m. ascent-fine form (map (cellFor form) xs) (ascent-start form xs m);
       map-back = λ xs m. ap (map (entryOf form)) (cells-encode (map (cellFor form) xs)) ∙ said form xs (m .valid);
     }
