@@ -8,3 +8,4 @@ pub mod Entries
 pub mod Turning
 pub mod Walking
 pub mod Fitting
+pub mod Answering

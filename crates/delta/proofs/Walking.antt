@@ -4,8 +4,10 @@ use mathlib.Core.Path.{_≡_, refl, sym, ap, ap₂, _∙_}
 use mathlib.Core.List.{List, [], _∷_, _++_, append-nil, append-assoc, map}
 use mathlib.Core.Option.{Option, none, some}
 use native.Mathlib.Omega.{arith}
+use native.Mathlib.Nat.{zero-add}
+use borrow.Author.Tests.{le-leb, lt-leb}
 use lib.ListN.{length, drop, length-append}
-use lib.Seq.{sets, length-sets}
+use lib.Seq.{sets, length-sets, sets-eq}
 use Rattle.order.specs.declared.Ordering.the-variants.{Less, Equal}
 use Rattle.order.specs.Comparison.{bytes, flip}
 use Rattle.order.specs.Map.{Item, Below}
@@ -38,9 +40,10 @@ use Rattle.delta.specs.Place.{changeIn, itemIn, heldIn, ActFits, KeyIn, 
 use Rattle.delta.specs.Reading.{readAs, Ready, EntryFits, Reads}
 use Rattle.delta.specs.declared.walk.Step.{Step}
 use Rattle.delta.specs.declared.walk.Step.the-variants as step
+use Rattle.delta.specs.declared.walk.Output.the-variants.{NoRoom, Written}
 use Rattle.delta.specs.Turn.{TurnIs, TurnMeans}
 use Rattle.delta.specs.Write.{fieldAs, writes, plusItem, plusAll, zero, Room}
-use Rattle.delta.specs.Walk.{EntryIn, bothOf, Passed, leftOf, Wrote, StepMeans, StepIs}
+use Rattle.delta.specs.Walk.{EntryIn, bothOf, Passed, leftOf, Wrote, StepMeans, StepIs, Runs, outputOf, wholeOut}
 use Rattle.delta.proofs.Sinking.{sets-append}
 use Rattle.delta.proofs.Tabling.{table-held}
 use Rattle.delta.proofs.Putting.{counts-path, field-small}
@@ -389,13 +392,12 @@ pub record Merging (form : Form) (ra : Reading) (a : Bytes) (rb : Reading) (b o�
   pub long : length o ≡ length o₀
   pub left : Left-over form c o (leftOf ra a i rb b j) zero o₀ (leftOf ra a 0 rb b 0)
 
-pub merge-start : (form : Form) (ra : Reading) (a : Bytes) (rb : Reading) (b o : Bytes) → Ready ra a 0 → Ready rb b 0 → length a ≤ 33554432 → length b ≤ 33554432 →
-    Merging form ra a rb b o 0 0 zero o
-merge-start form ra a rb b o p q h k = record {
-  ready-a = p;
-  ready-b = q;
-  short-a = h;
-  short-b = k;
+pub merge-start : (form : Form) (ra : Reading) (a : Bytes) (rb : Reading) (b o : Bytes) → Runs ra a rb b → Merging form ra a rb b o 0 0 zero o
+merge-start form ra a rb b o r = record {
+  ready-a = r .good-a;
+  ready-b = r .good-b;
+  short-a = r .short-a;
+  short-b = r .short-b;
   len = omega arith;
   announced = omega arith;
   withdrawn = omega arith;
@@ -474,3 +476,25 @@ module _ (form : Form) (ra : Reading) (a : Bytes) (rb : Reading) (b o₀ : Bytes
           f ∙ ap₂ (λ (v : Bytes) (x : D). sets v (c .len) (writes form x)) (rest-right d .0) (sym (rest-right d .1)) ∙ m .left .laid
 
 pub ruleset merging = (merge-start, merge-room, merge-passed-a, merge-passed-b, merge-less, merge-again, over-left-counts, over-left-bytes, over-right-counts, over-right-bytes)
+
+-- ---- put_whole
+
+module _ (form : Form) (d : D) (c : Counts) (e : c ≡ plusAll form zero d) (o : Bytes) where
+  len-is : c .len ≡ length (writes form d)
+  len-is = ap (λ (k : Counts). k .len) e ∙ zero-add (length (writes form d))
+
+  pub whole-long : length o < c .len → NoRoom ≡ outputOf form d (length o)
+  whole-long h = rw (lt-leb (length (writes form d)) (length o) (omega (arith, len-is)))
+
+  pub whole-long-bytes : length o < c .len → o ≡ wholeOut form d o
+  whole-long-bytes h = rw (lt-leb (length (writes form d)) (length o) (omega (arith, len-is)))
+
+  pub whole-fits : c .len ≤ length o → Written c ≡ outputOf form d (length o)
+  whole-fits h = rw (le-leb (length (writes form d)) (length o) (omega (arith, len-is))) (ap Written e)
+
+  pub whole-bytes : (p : Bytes) → c .len ≤ length o → p ≡ sets o 0 (writes form d) → p ≡ wholeOut form d o
+  whole-bytes p h q =
+      let k : length (writes form d) ≤ length o = omega (arith, len-is) in
+      rw (le-leb (length (writes form d)) (length o) k) (q ∙ sets-eq (writes form d) o 0 (simp zero-add k) ∙ simp zero-add)
+
+pub ruleset whole = (whole-long, whole-long-bytes, whole-fits, whole-bytes)

@@ -3,6 +3,8 @@ use Prim.Native.Nat.{ℕ, _+_, _*_, _≤_, _<_}
 use mathlib.Core.Path.{_≡_}
 use mathlib.Core.List.{[], _++_}
 use lib.ListN.{length, drop}
+use mathlib.Core.Bool.{cond}
+use lib.Dec.{leb}
 use lib.Seq.{sets}
 use Rattle.order.specs.Comparison.{bytes}
 use Rattle.order.specs.Walk.{emit}
@@ -18,8 +20,10 @@ use Rattle.delta.specs.declared.reading.Reading.{Reading}
 use Rattle.delta.specs.declared.turn.Side.the-variants as side
 use Rattle.delta.specs.declared.walk.Step.{Step}
 use Rattle.delta.specs.declared.walk.Step.the-variants.{Over, On}
+use Rattle.delta.specs.declared.walk.Output.{Output}
+use Rattle.delta.specs.declared.walk.Output.the-variants.{NoRoom, Written}
 use Rattle.delta.specs.Reading.{readAs, Ready}
-use Rattle.delta.specs.Write.{writes, plusAll}
+use Rattle.delta.specs.Write.{writes, plusAll, zero}
 use Rattle.delta.specs.Place.{changeIn, ActFits, KeyIn}
 
 -- an item of s
@@ -62,3 +66,21 @@ module _ (form : Form) (ra : Reading) (a : Bytes) (i : ℕ) (rb : Reading) (b : 
 
   pub record StepIs (r : Step) : Type 0 where
     pub is : StepMeans r
+
+-- two good runs, within the longer of the limits
+pub record Runs (ra : Reading) (a : Bytes) (rb : Reading) (b : Bytes) : Type 0 where
+  pub good-a : Ready ra a 0
+  pub good-b : Ready rb b 0
+  pub short-a : length a ≤ 33_554_432
+  pub short-b : length b ≤ 33_554_432
+
+-- both read as changes and merged
+abbrev pub mergedAs : Reading → Bytes → Reading → Bytes → Delta Bytes Bytes
+mergedAs ra a rb b = merge bytes bytes (readAs ra a) (readAs rb b)
+
+-- the whole of it, where there is room for that
+abbrev pub outputOf : Form → Delta Bytes Bytes → ℕ → Output
+outputOf form D room = cond (leb (length (writes form D)) room) (Written (plusAll form zero D)) NoRoom
+
+abbrev pub wholeOut : Form → Delta Bytes Bytes → Bytes → Bytes
+wholeOut form D out = cond (leb (length (writes form D)) (length out)) (writes form D ++ drop (length (writes form D)) out) out

@@ -5,7 +5,8 @@ use crate::fit::Fit;
 use crate::fit::first_misfit;
 use crate::reading::Reading;
 use crate::refusal::Refusal;
-use crate::walk::put_merge;
+use crate::walk::Output;
+use crate::walk::put_whole;
 use field::tag::Form;
 ghost use mathlib.Core.Path.{_≡_};
 ghost use lib.ListN.{length};
@@ -27,25 +28,15 @@ pub fn apply(snapshot: &[u8], delta: &[u8], out: &mut [u8]) -> Applied
     if let Fit::Misfit { at } = first_misfit(snapshot, delta) {
         return Applied::Refused(Refusal::CannotApply { at });
     }
-    let counts = put_merge(
-        Form::Snapshot,
-        Reading::Announced,
-        snapshot,
-        Reading::Changes,
-        delta,
-        &mut out[..0],
-    );
-    let len = counts.len;
-    if out.len() < len {
-        return Applied::Refused(Refusal::NoRoom);
-    }
-    put_merge(
+    match put_whole(
         Form::Snapshot,
         Reading::Announced,
         snapshot,
         Reading::Changes,
         delta,
         out,
-    );
-    Applied::Snapshot(len)
+    ) {
+        Output::NoRoom => Applied::Refused(Refusal::NoRoom),
+        Output::Written(counts) => Applied::Snapshot(counts.len),
+    }
 }

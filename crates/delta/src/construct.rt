@@ -4,7 +4,8 @@ use crate::admit::admit;
 use crate::reading::Reading;
 use crate::refusal::Refusal;
 use crate::sink::Counts;
-use crate::walk::put_merge;
+use crate::walk::Output;
+use crate::walk::put_whole;
 use field::tag::Form;
 use serial::Serial;
 use serial::next;
@@ -26,27 +27,20 @@ pub fn construct(old: &[u8], new: &[u8], serial: Serial, out: &mut [u8]) -> Cons
     if let Admitted::No(r) = admit(Form::Snapshot, old, Form::Snapshot, new) {
         return Constructed::Refused(r);
     }
-    let counts = put_merge(
-        Form::Delta,
-        Reading::Withdrawn,
-        old,
-        Reading::Announced,
-        new,
-        &mut out[..0],
-    );
-    if counts.len == 0 {
-        return Constructed::NoChange;
-    }
-    if out.len() < counts.len {
-        return Constructed::Refused(Refusal::NoRoom);
-    }
-    put_merge(
+    match put_whole(
         Form::Delta,
         Reading::Withdrawn,
         old,
         Reading::Announced,
         new,
         out,
-    );
-    Constructed::Delta(next(serial), counts)
+    ) {
+        Output::NoRoom => Constructed::Refused(Refusal::NoRoom),
+        Output::Written(counts) => {
+            if counts.len == 0 {
+                return Constructed::NoChange;
+            }
+            Constructed::Delta(next(serial), counts)
+        }
+    }
 }

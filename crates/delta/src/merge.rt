@@ -4,7 +4,8 @@ use crate::admit::admit;
 use crate::reading::Reading;
 use crate::refusal::Refusal;
 use crate::sink::Counts;
-use crate::walk::put_merge;
+use crate::walk::Output;
+use crate::walk::put_whole;
 use field::tag::Form;
 use serial::Serial;
 ghost use mathlib.Core.Path.{_≡_};
@@ -24,24 +25,15 @@ pub fn merge(earlier: &[u8], later: &[u8], serial: Serial, out: &mut [u8]) -> Me
     if let Admitted::No(r) = admit(Form::Delta, earlier, Form::Delta, later) {
         return Merged::Refused(r);
     }
-    let counts = put_merge(
-        Form::Delta,
-        Reading::Changes,
-        earlier,
-        Reading::Changes,
-        later,
-        &mut out[..0],
-    );
-    if out.len() < counts.len {
-        return Merged::Refused(Refusal::NoRoom);
-    }
-    put_merge(
+    match put_whole(
         Form::Delta,
         Reading::Changes,
         earlier,
         Reading::Changes,
         later,
         out,
-    );
-    Merged::Delta(serial, counts)
+    ) {
+        Output::NoRoom => Merged::Refused(Refusal::NoRoom),
+        Output::Written(counts) => Merged::Delta(serial, counts),
+    }
 }

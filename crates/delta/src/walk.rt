@@ -14,15 +14,12 @@ use crate::turn::take_turn;
 use field::tag::Form;
 ghost use mathlib.Core.Path.{_≡_};
 ghost use mathlib.Core.List.{_∷_, []};
-ghost use Prim.Native.Nat.{_≤_};
 ghost use lib.ListN.{length, drop};
 ghost use lib.Seq.{sets};
-ghost use Rattle.order.specs.Comparison.{bytes};
-ghost use Rattle.change.specs.Merge.{merge};
 ghost use Rattle.delta.specs.Place.{itemIn};
 ghost use Rattle.delta.specs.Reading.{readAs, Ready};
 ghost use Rattle.delta.specs.Write.{Room, plusItem, plusAll, fieldAs, writes, zero};
-ghost use Rattle.delta.specs.Walk.{EntryIn, bothOf, Passed, StepIs};
+ghost use Rattle.delta.specs.Walk.{EntryIn, bothOf, Passed, Runs, mergedAs, StepIs, outputOf, wholeOut};
 
 // An item that one side alone has.
 fn put_one(form: Form, s: &[u8], x: Entry, out: &mut [u8], counts: Counts) -> Counts
@@ -121,8 +118,8 @@ fn put_turn(
 
 // The merge of two runs, as far as out has room; its counts whether it has room or not.
 pub fn put_merge(form: Form, ra: Reading, a: &[u8], rb: Reading, b: &[u8], out: &mut [u8]) -> Counts
-    requires { ⌜ Ready ra (now a) 0 × (Ready rb (now b) 0 × ((length (now a) ≤ 33554432) × (length (now b) ≤ 33554432))) ⌝ }
-    ensures { λ r. ⌜ (r ≡ plusAll form zero (merge bytes bytes (readAs ra (now (a .entry))) (readAs rb (now (b .entry))))) × (now (out .exit) ≡ sets (now (out .entry)) 0 (writes form (merge bytes bytes (readAs ra (now (a .entry))) (readAs rb (now (b .entry)))))) ⌝ }
+    requires { ⌜ Runs ra (now a) rb (now b) ⌝ }
+    ensures { λ r. ⌜ (r ≡ plusAll form zero (mergedAs ra (now (a .entry)) rb (now (b .entry)))) × (now (out .exit) ≡ sets (now (out .entry)) 0 (writes form (mergedAs ra (now (a .entry)) rb (now (b .entry))))) ⌝ }
 {
     let mut i = 0;
     let mut j = 0;
@@ -145,4 +142,32 @@ pub fn put_merge(form: Form, ra: Reading, a: &[u8], rb: Reading, b: &[u8], out: 
         return put_rest(form, ra, a, i, out, counts);
     }
     put_rest(form, rb, b, j, out, counts)
+}
+
+// The counts of the merge of two runs.
+fn measure(form: Form, ra: Reading, a: &[u8], rb: Reading, b: &[u8]) -> Counts
+    requires { ⌜ Runs ra (now a) rb (now b) ⌝ }
+    ensures { λ r. ⌜ r ≡ plusAll form zero (mergedAs ra (now (a .entry)) rb (now (b .entry))) ⌝ }
+{
+    let mut nothing = [0u8; 1];
+    put_merge(form, ra, a, rb, b, &mut nothing)
+}
+
+pub enum Output {
+    NoRoom,
+    Written(Counts),
+}
+
+// The merge of two runs, if out has room for all of it; else nothing is written.
+pub fn put_whole(form: Form, ra: Reading, a: &[u8], rb: Reading, b: &[u8], out: &mut [u8]) -> Output
+    requires { ⌜ Runs ra (now a) rb (now b) ⌝ }
+    ensures { λ r. ⌜ (r ≡ outputOf form (mergedAs ra (now (a .entry)) rb (now (b .entry))) (length (now (out .entry)))) × (now (out .exit) ≡ wholeOut form (mergedAs ra (now (a .entry)) rb (now (b .entry))) (now (out .entry))) ⌝ }
+{
+    let counts = measure(form, ra, a, rb, b);
+    let len = counts.len;
+    if out.len() < len {
+        return Output::NoRoom;
+    }
+    put_merge(form, ra, a, rb, b, out);
+    Output::Written(counts)
 }
