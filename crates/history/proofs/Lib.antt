@@ -1,0 +1,11 @@
+pub mod Valid
+pub mod Lists
+pub mod Store
+pub mod Difference
+pub mod Served
+pub mod Steps
+pub mod Invariant
+pub mod Queries
+pub mod Runs
+pub mod Marked
+pub mod Examples
