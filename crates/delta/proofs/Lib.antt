@@ -9,3 +9,5 @@ pub mod Turning
 pub mod Walking
 pub mod Fitting
 pub mod Answering
+pub mod Differences
+pub mod Demand

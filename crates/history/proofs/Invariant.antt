@@ -30,7 +30,7 @@ use Rattle.history.specs.Run.{World, Call, update, query, full, stepOf, 
 use Rattle.history.specs.Promise.{OfBytes}
 use Rattle.history.proofs.Lists.{lastN-length, pushed-last, newest-push, all-push, all-pushed, map-push, map-pushed, map-newest}
 use Rattle.history.proofs.Store.{joined-length, store-length, next-lengths, next-deltas}
-use Rattle.history.proofs.Difference.{Good, difference-fine, difference-says}
+use Rattle.delta.proofs.Differences.{Good, difference-fine, difference-says}
 use Rattle.history.proofs.Steps.{Adds, Begins, step-add, step-first}
 
 -- what no call changes: the session and keep of the creation, and stores within their limits

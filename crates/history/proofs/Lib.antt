@@ -1,7 +1,5 @@
-pub mod Valid
 pub mod Lists
 pub mod Store
-pub mod Difference
 pub mod Served
 pub mod Steps
 pub mod Invariant

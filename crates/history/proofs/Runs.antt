@@ -50,7 +50,7 @@ use Rattle.history.specs.Full.{fullOf}
 use Rattle.history.specs.Run.{World, Call, update, query, full, updated, replyOf, stepOf, refusedUpdate, refusedAnswer, refused, Run, startOf, runOf}
 use Rattle.history.specs.Promise.{OfBytes, changesIn, serialIn, Rule, Leads, current, outputOf, asks, Promise}
 use Rattle.history.proofs.Lists.{map-lastN, map-newest, map-nth, all-map}
-use Rattle.history.proofs.Difference.{Good, good-map, difference-applies, difference-fits, difference-yields, difference-empty, difference-self}
+use Rattle.delta.proofs.Differences.{Good, good-map, difference-applies, difference-fits, difference-yields, difference-empty, difference-self}
 use Rattle.history.proofs.Served.{served-rule, rule-served, rule-within, carried-back}
 use Rattle.history.proofs.Steps.{fine-admitted, step-seven, step-unchanged, unchanged-step}
 use Rattle.history.proofs.Invariant.{Frame, Holds, Waits, Inv, holds-count, holds-zero, holds-formed, inv-formed, call-inv}

@@ -21,10 +21,10 @@ use Rattle.payload.specs.Content.{Bytes, entryOf}
 use Rattle.payload.specs.Valid.{IsMap}
 use Rattle.payload.specs.Payload.{entries, encode, items, changes}
 use Rattle.payload.proofs.Faithful.{faithful, one-form, entries-end}
 use Rattle.delta.specs.declared.fit.Fit.the-variants.{All}
 use Rattle.delta.specs.Fit.{misfit, fitOf}
 use Rattle.delta.specs.Answer.{differenceOf, appliedOf}
-use Rattle.history.proofs.Valid.{diff-map}
+use Rattle.payload.proofs.Closed.{diff-map}
 
 -- a good snapshot, as bytes
 pub record Good (s : Bytes) : Type 0 where
