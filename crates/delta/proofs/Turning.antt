@@ -1,0 +1,55 @@
+-- Laws of a turn of the walk.
+use Prim.Native.Nat.{ℕ, _+_, _≤_, _<_}
+use mathlib.Core.Path.{_≡_, refl, sym, ap, _∙_}
+use mathlib.Core.List.{[], _∷_}
+use lib.ListN.{length, drop}
+use Rattle.order.specs.declared.Ordering.{Ordering}
+use Rattle.order.specs.declared.Ordering.the-variants.{Less, Equal, Greater}
+use Rattle.order.specs.Comparison.{bytes, flip, TotalOrder}
+use Rattle.order.proofs.Comparison.{strings}
+use Rattle.field.specs.declared.key.Key.{Key}
+use Rattle.field.specs.Places.{KeyFits, keyIn}
+use Rattle.payload.specs.Content.{Bytes}
+use Rattle.delta.specs.declared.place.Entry.{Entry}
+use Rattle.delta.specs.declared.reading.Reading.{Reading}
+use Rattle.delta.specs.declared.reading.Read.{Read}
+use Rattle.delta.specs.declared.reading.Read.the-variants.{End, One}
+use Rattle.delta.specs.declared.turn.Side.the-variants as side
+use Rattle.delta.specs.declared.turn.Turn.{Turn}
+use Rattle.delta.specs.declared.turn.Turn.the-variants.{Over, Left, Right, Both}
+use Rattle.delta.specs.Reading.{readAs, EntryFits, Reads}
+use Rattle.delta.specs.Turn.{TurnIs}
+
+-- the key of what was read lies in the run
+module _ (reading : Reading) (s : Bytes) (at : ℕ) (r : Read) (h : Reads reading s at r) (x : Entry) (e : r ≡ One x) where
+  pub entry-reads : Reads reading s at (One x)
+  entry-reads = rw e at h
+
+  pub entry-key : KeyFits s (x .key)
+  entry-key = (rw e at (h .fits)) .key .fits
+
+module _ (ra : Reading) (a : Bytes) (i : ℕ) (rb : Reading) (b : Bytes) (j : ℕ) (p : Read) (f : Reads ra a i p) where
+  pub left-over : p ≡ End → TurnIs ra a i rb b j (Over side.Right)
+  left-over e = record { is = rw e at (f .is) }
+
+  module _ (q : Read) (g : Reads rb b j q) where
+    pub right-over : q ≡ End → TurnIs ra a i rb b j (Over side.Left)
+    right-over e = record { is = rw e at (g .is) }
+
+    module _ (x y : Entry) (ex : p ≡ One x) (ey : q ≡ One y) (o : Ordering) (c : o ≡ bytes (keyIn a (x .key)) (keyIn b (y .key))) where
+      l : Reads ra a i (One x)
+      l = rw ex at f
+
+      r : Reads rb b j (One y)
+      r = rw ey at g
+
+      pub left-first : o ≡ Less → TurnIs ra a i rb b j (Left x)
+      left-first d = record { is = (l, rw (r .is) (sym c ∙ d)) }
+
+      pub right-first : o ≡ Greater → TurnIs ra a i rb b j (Right y)
+      right-first d = record { is = (r, rw (l .is) (strings .turn (keyIn a (x .key)) (keyIn b (y .key)) ∙ ap flip (sym c ∙ d))) }
+
+      pub both-first : o ≡ Equal → TurnIs ra a i rb b j (Both x y)
+      both-first d = record { is = (l, r, strings .same (keyIn a (x .key)) (keyIn b (y .key)) (sym c ∙ d)) }
+
+pub ruleset turning = (entry-key, left-over, right-over, left-first, right-first, both-first)

@@ -1,0 +1,9 @@
+pub mod Refusal
+pub mod Admission
+pub mod Place
+pub mod Reading
+pub mod Turn
+pub mod Write
+pub mod Walk
+pub mod Fit
+pub mod Answer

@@ -1,0 +1,42 @@
+-- Document 01's number, argument and offset for each refusal.
+use Prim.Native.Nat.{ℕ}
+use Rattle.delta.specs.declared.refusal.Refusal.{Refusal}
+use Rattle.delta.specs.declared.refusal.Refusal.the-variants.{Bad, NotAbove, CannotApply, NoRoom, OtherSession, NotServed, IllFormed, BadKeep, StoreFull, TooLong}
+
+abbrev pub numberOf : Refusal → ℕ
+numberOf (Bad argument at) = 1
+numberOf (NotAbove argument at) = 2
+numberOf (CannotApply at) = 3
+numberOf NoRoom = 4
+numberOf OtherSession = 5
+numberOf NotServed = 6
+numberOf IllFormed = 7
+numberOf BadKeep = 8
+numberOf StoreFull = 9
+numberOf (TooLong argument) = 10
+
+-- 1 or 2 for numbers 1, 2, 3 and 10, where a delta that cannot be applied is the second; else 0
+abbrev pub argumentOf : Refusal → ℕ
+argumentOf (Bad argument at) = argument
+argumentOf (NotAbove argument at) = argument
+argumentOf (CannotApply at) = 2
+argumentOf NoRoom = 0
+argumentOf OtherSession = 0
+argumentOf NotServed = 0
+argumentOf IllFormed = 0
+argumentOf BadKeep = 0
+argumentOf StoreFull = 0
+argumentOf (TooLong argument) = argument
+
+-- for 1, 2 and 3 the start of the field; else 0
+abbrev pub offsetOf : Refusal → ℕ
+offsetOf (Bad argument at) = at
+offsetOf (NotAbove argument at) = at
+offsetOf (CannotApply at) = at
+offsetOf NoRoom = 0
+offsetOf OtherSession = 0
+offsetOf NotServed = 0
+offsetOf IllFormed = 0
+offsetOf BadKeep = 0
+offsetOf StoreFull = 0
+offsetOf (TooLong argument) = 0

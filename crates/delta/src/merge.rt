@@ -1,0 +1,39 @@
+// The merge of two deltas.
+use crate::admit::Admitted;
+use crate::admit::admit;
+use crate::reading::Reading;
+use crate::refusal::Refusal;
+use crate::sink::Counts;
+use crate::walk::Output;
+use crate::walk::put_whole;
+use field::tag::Form;
+use serial::Serial;
+ghost use mathlib.Core.Path.{_≡_};
+ghost use lib.ListN.{length};
+ghost use Rattle.delta.specs.Answer.{mergeOf, mergeOut};
+
+pub enum Merged {
+    // The target serial, and what was written.
+    Delta(Serial, Counts),
+    Refused(Refusal),
+}
+
+// The earlier delta and then the later one, with the later's serial.
+pub fn merge(earlier: &[u8], later: &[u8], serial: Serial, out: &mut [u8]) -> Merged
+    ensures { λ r. ⌜ (r ≡ mergeOf (now (earlier .entry)) (now (later .entry)) serial (length (now (out .entry)))) × (now (out .exit) ≡ mergeOut (now (earlier .entry)) (now (later .entry)) (now (out .entry))) ⌝ }
+{
+    if let Admitted::No(r) = admit(Form::Delta, earlier, Form::Delta, later) {
+        return Merged::Refused(r);
+    }
+    match put_whole(
+        Form::Delta,
+        Reading::Changes,
+        earlier,
+        Reading::Changes,
+        later,
+        out,
+    ) {
+        Output::NoRoom => Merged::Refused(Refusal::NoRoom),
+        Output::Written(counts) => Merged::Delta(serial, counts),
+    }
+}

@@ -1,0 +1,140 @@
+-- Worked examples, by computation: runs of calls and what they leave.
+use Prim.Native.Nat.{ℕ}
+use mathlib.Core.Path.{_≡_, refl}
+use mathlib.Core.List.{List, [], _∷_, _++_}
+use mathlib.Core.Bool.{Bool, true, false}
+use lib.ListN.{length, replicate}
+use Rattle.order.specs.Walk.{walk}
+use Rattle.field.specs.Tag.{tagOf, kindOf, goodBody}
+use Rattle.field.specs.Aspa.{asns, ascendingFrom, ascending, goodProviders, goodAspa, goodUpdate}
+use Rattle.field.specs.Head.{front}
+use Rattle.field.specs.Key.{keyOf}
+use Rattle.field.specs.Verdict.{judge, verdictF, verdict}
+use Rattle.field.specs.Cells.{cellsF, cells, field}
+use Rattle.field.specs.Cells as run
+use Rattle.payload.specs.Content.{Bytes}
+use Rattle.payload.specs.Payload.{entries, encode}
+use Rattle.delta.specs.declared.refusal.Refusal.the-variants.{BadKeep, StoreFull, Bad, OtherSession}
+use Rattle.delta.specs.Answer.{differenceOf, countsOf}
+use Rattle.history.specs.declared.state.History.{History}
+use Rattle.history.specs.declared.create.Creation.the-variants as creation
+use Rattle.history.specs.declared.update.Update.the-variants.{First, Unchanged, Changed, Refused}
+use Rattle.history.specs.Store.{lengthsOf}
+use Rattle.history.specs.WellFormed.{wellFormed}
+use Rattle.history.specs.Create.{freshOf, createOf}
+use Rattle.history.specs.Update.{stepFor, updateOf, updateSnapshots, updateDeltas}
+use Rattle.history.specs.Query.{mergedLast, refusedWith, servedWith, queryOf}
+use Rattle.history.specs.Run.{World, Call, update, updated, replyOf, Run, startOf, runOf}
+use Rattle.history.specs.Marked.{p, q, held, delta1, delta2, delta3}
+
+-- a history as it stands with these deltas
+abbrev state : ℕ → ℕ → ℕ → List Bytes → History
+state keep newest snapshot ds = record {
+  session = 65_543;
+  keep = keep;
+  active = true;
+  newest = record { 0 = newest };
+  n = length ds;
+  snapshot = snapshot;
+  deltas = lengthsOf ds;
+}
+
+-- any state, with these lengths of deltas
+abbrev any : ℕ → Bool → ℕ → ℕ → List ℕ → History
+any keep active newest snapshot lengths = record {
+  session = 1;
+  keep = keep;
+  active = active;
+  newest = record { 0 = newest };
+  n = length lengths;
+  snapshot = snapshot;
+  deltas = lengths;
+}
+
+abbrev world : History → Bytes → Bytes → World
+world h snapshots deltas = record { history = h; snapshots = snapshots; deltas = deltas }
+
+abbrev updates : List Bytes → List Call
+updates [] = []
+updates (s ∷ ss) = update s ∷ updates ss
+
+-- a run of updates with this keep, and stores of 12 bytes 9 and of this many bytes 8
+abbrev runs : ℕ → ℕ → List Bytes → Run
+runs keep room news = runOf (startOf 65_543 keep (replicate 12 9) (replicate room 8)) (updates news)
+
+pub record Examples : Type 0 where
+  -- the first snapshot is current, and the serial stays 0
+  first-run : runs 2 32 (held p ∷ []) ≡ record { world = world (state 2 0 11 []) (held p ++ (9 ∷ [])) (replicate 32 8); given = held p ∷ [] }
+  -- with keep 2 the third change drops the first delta; an unchanged snapshot changes nothing; what lies past the held bytes stays
+  long-run : runs 2 32 ([] ∷ held p ∷ held p ∷ held q ∷ [] ∷ [])
+      ≡ record {
+        world = world (state 2 3 0 (delta2 ∷ delta3 ∷ [])) (held q ++ (9 ∷ [])) (delta2 ++ (delta3 ++ replicate 4 8));
+        given = [] ∷ held p ∷ held q ∷ [] ∷ [];
+      }
+  -- deltas of 11 and 17 bytes fit into a store of 28; with one byte less the second is refused
+  just-room : runs 2 28 ([] ∷ held p ∷ held q ∷ []) .world ≡ world (state 2 2 11 (delta1 ∷ delta2 ∷ [])) (held q ++ (9 ∷ [])) (delta1 ++ delta2)
+  store-full : replyOf (runs 2 27 ([] ∷ held p ∷ []) .world) (update (held q)) ≡ updated (Refused StoreFull)
+  -- the room of a dropped delta is used again: with keep 1 a store of 17 is enough
+  room-again : runs 1 17 ([] ∷ held p ∷ held q ∷ []) .world ≡ world (state 1 2 11 (delta2 ∷ [])) (held q ++ (9 ∷ [])) delta2
+  -- the answers: first, changed with the delta's counts, unchanged, refused for the first bad field
+  first-answer : replyOf (runs 2 32 [] .world) (update []) ≡ updated First
+  changed-answer : replyOf (runs 2 32 ([] ∷ []) .world) (update (held p)) ≡ updated (Changed (countsOf delta1))
+  unchanged-answer : replyOf (runs 2 32 (held p ∷ []) .world) (update (held p)) ≡ updated Unchanged
+  bad-answer : replyOf (runs 2 32 (held p ∷ []) .world) (update (3 ∷ [])) ≡ updated (Refused (Bad 1 0))
+  -- while inactive, serial 0 gets the empty delta; a session of other low bits is refused
+  inactive-query : queryOf (freshOf 65_543 2) (record { 0 = 7 }) (record { 0 = 0 }) [] [] 0 ≡ servedWith (freshOf 65_543 2) []
+  other-session : queryOf (freshOf 65_543 2) (record { 0 = 8 }) (record { 0 = 0 }) [] [] 0 ≡ refusedWith OtherSession
+  -- keep 0 and 65 are refused at creation, with a history of zeros
+  keep-low : createOf 5 0 [] [] ≡ record { answer = creation.Refused BadKeep; history = freshOf 0 0 }
+  keep-high : createOf 5 65 [] [] ≡ record { answer = creation.Refused BadKeep; history = freshOf 0 0 }
+  keep-most : createOf 5 64 [] [] ≡ record { answer = creation.Done; history = freshOf 5 64 }
+  -- not well formed: keep out of range, n above keep
+  keep-none : wellFormed (any 0 true 0 0 []) [] [] ≡ false
+  keep-many : wellFormed (any 65 true 0 0 []) [] [] ≡ false
+  n-above : wellFormed (any 1 true 2 0 (11 ∷ 17 ∷ [])) [] (delta1 ++ delta2) ≡ false
+  -- F not 0 with n = 0, or inactive; inactive with a delta or a snapshot
+  serial-alone : wellFormed (any 2 true 1 0 []) [] [] ≡ false
+  inactive-serial : wellFormed (any 2 false 1 0 []) [] [] ≡ false
+  inactive-delta : wellFormed (any 2 false 0 0 (11 ∷ [])) [] delta1 ≡ false
+  inactive-snapshot : wellFormed (any 2 false 0 11 []) (held p) [] ≡ false
+  -- held bytes past the end of a store
+  snapshot-past : wellFormed (any 2 true 0 12 []) (held p) [] ≡ false
+  deltas-past : wellFormed (any 2 true 1 0 (12 ∷ [])) [] delta1 ≡ false
+  -- a snapshot or a delta that is not good
+  bad-snapshot : wellFormed (any 2 true 0 1 []) (3 ∷ []) [] ≡ false
+  bad-delta : wellFormed (any 2 true 1 0 (1 ∷ [])) [] (0x31 ∷ []) ≡ false
+  -- well formed: a fresh one, and F = 0 with a delta, as after the wrap
+  fresh : wellFormed (any 2 false 0 0 []) [] [] ≡ true
+  wrapped : wellFormed (any 2 true 0 11 (11 ∷ [])) (held p) delta1 ≡ true
+
+pub examples : Examples
+unfolding createOf stepFor updateOf updateSnapshots updateDeltas queryOf wellFormed mergedLast verdict verdictF judge front goodBody tagOf kindOf keyOf goodAspa goodUpdate goodProviders asns ascending ascendingFrom cells cellsF field run.encode entries encode walk differenceOf
+examples = record {
+  first-run = refl;
+  long-run = refl;
+  just-room = refl;
+  store-full = refl;
+  room-again = refl;
+  first-answer = refl;
+  changed-answer = refl;
+  unchanged-answer = refl;
+  bad-answer = refl;
+  inactive-query = refl;
+  other-session = refl;
+  keep-low = refl;
+  keep-high = refl;
+  keep-most = refl;
+  keep-none = refl;
+  keep-many = refl;
+  n-above = refl;
+  serial-alone = refl;
+  inactive-serial = refl;
+  inactive-delta = refl;
+  inactive-snapshot = refl;
+  snapshot-past = refl;
+  deltas-past = refl;
+  bad-snapshot = refl;
+  bad-delta = refl;
+  fresh = refl;
+  wrapped = refl;
+}

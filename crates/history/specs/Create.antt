@@ -1,0 +1,41 @@
+-- Creation.
+use Prim.Native.Nat.{ℕ}
+use mathlib.Core.List.{[]}
+use mathlib.Core.Bool.{false, cond}
+use Rattle.field.specs.declared.tag.Form.the-variants.{Snapshot, Delta}
+use Rattle.payload.specs.Content.{Bytes}
+use Rattle.delta.specs.declared.refusal.Refusal.the-variants.{BadKeep}
+use Rattle.delta.specs.declared.admit.Admitted.{Admitted}
+use Rattle.delta.specs.declared.admit.Admitted.the-variants.{Yes, No}
+use Rattle.delta.specs.Admission.{andThen, limitOf}
+use Rattle.history.specs.declared.state.History.{History}
+use Rattle.history.specs.declared.create.Creation.the-variants.{Done, Refused}
+use Rattle.history.specs.declared.create.Created.{Created}
+use Rattle.history.specs.Store.{lengthsOf}
+use Rattle.history.specs.WellFormed.{goodKeep}
+
+-- inactive, n = 0, F = 0, nothing held
+abbrev pub freshOf : ℕ → ℕ → History
+freshOf session keep = record {
+  session = session;
+  keep = keep;
+  active = false;
+  newest = record { 0 = 0 };
+  n = 0;
+  snapshot = 0;
+  deltas = lengthsOf [];
+}
+
+-- 8 if keep is not 1 to 64, then 10 if a store is over its length limit
+abbrev pub createAdmitted : ℕ → Bytes → Bytes → Admitted
+createAdmitted keep snapshots deltas =
+    andThen (cond (goodKeep keep) Yes (No BadKeep)) (andThen (limitOf Snapshot snapshots 1) (limitOf Delta deltas 2))
+
+-- a fresh history, or a history of zeros
+abbrev pub createAt : Admitted → ℕ → ℕ → Created
+createAt Yes session keep = record { answer = Done; history = freshOf session keep }
+createAt (No r) session keep = record { answer = Refused r; history = freshOf 0 0 }
+
+-- session, keep, the two stores (which stay as they were)
+unfoldable pub createOf : ℕ → ℕ → Bytes → Bytes → Created
+createOf session keep snapshots deltas = createAt (createAdmitted keep snapshots deltas) session keep

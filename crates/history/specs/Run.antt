@@ -1,0 +1,125 @@
+-- Runs of calls: each is handed the state and the stores that the one before left.
+use Prim.Native.Nat.{ℕ}
+use mathlib.Core.List.{List, [], _∷_, _++_, foldl}
+use mathlib.Core.Option.{Option, none, some}
+use mathlib.Core.Bool.{cond}
+use lib.Dec.{eqb}
+use lib.ListN.{length}
+use Rattle.serial.specs.declared.Serial.{Serial}
+use Rattle.serial.specs.declared.Session.{Session}
+use Rattle.serial.specs.Serial.{nextOf}
+use Rattle.payload.specs.Content.{Bytes}
+use Rattle.delta.specs.declared.refusal.Refusal.{Refusal}
+use Rattle.history.specs.declared.state.History.{History}
+use Rattle.history.specs.declared.update.Update.{Update}
+use Rattle.history.specs.declared.update.Update.the-variants as updates
+use Rattle.history.specs.declared.query.Answer.{Answer}
+use Rattle.history.specs.declared.query.Answer.the-variants as answers
+use Rattle.history.specs.declared.query.Queried.{Queried}
+use Rattle.history.specs.declared.full.Full.{Full}
+use Rattle.history.specs.declared.full.FullAnswer.{FullAnswer}
+use Rattle.history.specs.declared.full.FullAnswer.the-variants as fulls
+use Rattle.history.specs.Create.{createOf}
+use Rattle.history.specs.Update.{updateOf, updateSnapshots, updateDeltas}
+use Rattle.history.specs.Query.{queryOf, queryOut}
+use Rattle.history.specs.Full.{fullOf}
+
+-- a history and its two stores
+pub record World : Type 0 where
+  pub history : History
+  pub snapshots : Bytes
+  pub deltas : Bytes
+
+-- a query brings the output that it is lent
+pub data Call : Type 0 where
+  update : (new : Bytes) → Call
+  query : (session : Session) (asked : Serial) (out : Bytes) → Call
+  full : Call
+
+-- what a call answers; a query's output afterwards
+pub data Reply : Type 0 where
+  updated : Update → Reply
+  queried : Queried → (out : Bytes) → Reply
+  fully : Full → Reply
+
+abbrev pub replyOf : World → Call → Reply
+replyOf w (update new) = updated (updateOf (w .history) new (w .snapshots) (w .deltas) .answer)
+replyOf w (query session asked out) =
+    queried (queryOf (w .history) session asked (w .snapshots) (w .deltas) (length out))
+    (queryOut (w .history) session asked (w .snapshots) (w .deltas) out)
+replyOf w full = fully (fullOf (w .history) (w .snapshots) (w .deltas))
+
+-- what a call leaves
+abbrev pub stepOf : World → Call → World
+stepOf w (update new) = record {
+  history = updateOf (w .history) new (w .snapshots) (w .deltas) .history;
+  snapshots = updateSnapshots (w .history) new (w .snapshots) (w .deltas);
+  deltas = updateDeltas (w .history) new (w .snapshots) (w .deltas);
+}
+stepOf w (query session asked out) = w
+stepOf w full = w
+
+-- a reply's refusal, if it is one
+abbrev pub refusedUpdate : Update → Option Refusal
+refusedUpdate updates.First = none
+refusedUpdate updates.Unchanged = none
+refusedUpdate (updates.Changed counts) = none
+refusedUpdate (updates.Refused r) = some r
+
+abbrev pub refusedAnswer : Answer → Option Refusal
+refusedAnswer (answers.Refused r) = some r
+refusedAnswer (answers.Served counts) = none
+
+abbrev pub refusedFull : FullAnswer → Option Refusal
+refusedFull (fulls.Refused r) = some r
+refusedFull (fulls.Held len) = none
+
+abbrev pub refused : Reply → Option Refusal
+refused (updated a) = refusedUpdate a
+refused (queried q out) = refusedAnswer (q .answer)
+refused (fully f) = refusedFull (f .answer)
+
+-- a world, and the snapshots that were accepted so far, oldest first, without those that changed nothing
+pub record Run : Type 0 where
+  pub world : World
+  pub given : List Bytes
+
+abbrev pub givenBy : Update → Bytes → List Bytes → List Bytes
+givenBy updates.First new given = given ++ (new ∷ [])
+givenBy updates.Unchanged new given = given
+givenBy (updates.Changed counts) new given = given ++ (new ∷ [])
+givenBy (updates.Refused r) new given = given
+
+abbrev pub givenAfter : World → Call → List Bytes → List Bytes
+givenAfter w (update new) given = givenBy (updateOf (w .history) new (w .snapshots) (w .deltas) .answer) new given
+givenAfter w (query session asked out) given = given
+givenAfter w full given = given
+
+abbrev pub onward : Run → Call → Run
+onward r c = record { world = stepOf (r .world) c; given = givenAfter (r .world) c (r .given) }
+
+-- a fresh history, lent these stores
+abbrev pub startOf : ℕ → ℕ → Bytes → Bytes → Run
+startOf session keep snapshots deltas = record {
+  world = record { history = createOf session keep snapshots deltas .history; snapshots = snapshots; deltas = deltas };
+  given = [];
+}
+
+-- the calls, one after the other
+abbrev pub runOf : Run → List Call → Run
+runOf = foldl onward
+
+-- what stands later, or else this
+abbrev pub orLast : Option Bytes → Option Bytes → Option Bytes
+orLast none o = o
+orLast (some s) o = some s
+
+-- of snapshots of which the first carried `serial` and each later one the serial after: the last that carried the one asked for
+abbrev pub carriedFrom : Serial → Serial → List Bytes → Option Bytes
+carriedFrom serial asked [] = none
+carriedFrom serial asked (s ∷ ss) =
+    orLast (carriedFrom (nextOf serial) asked ss) (cond (eqb (serial .0) (asked .0)) (some s) none)
+
+-- the snapshot that most recently carried a serial, of those accepted so far: the first carried 0
+abbrev pub carried : Serial → List Bytes → Option Bytes
+carried asked given = carriedFrom (record { 0 = 0 }) asked given

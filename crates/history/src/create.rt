@@ -1,0 +1,13 @@
+// Creation.
+use crate::state::History;
+use delta::refusal::Refusal;
+
+pub enum Creation {
+    Done,
+    Refused(Refusal),
+}
+
+pub struct Created {
+    pub answer: Creation,
+    pub history: History,
+}

@@ -1,0 +1,7 @@
+// The history of a server's snapshots and what it serves.
+pub mod create;
+pub mod full;
+pub mod notify;
+pub mod query;
+pub mod state;
+pub mod update;

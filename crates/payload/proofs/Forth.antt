@@ -1,0 +1,126 @@
+-- The field of a valid item is good, and says that item.
+use Prim.Native.Nat.{ℕ, _+_, _-_, _*_, _/_, _%_, _≤_, _<_}
+use mathlib.Core.Path.{_≡_, refl, sym, ap, ap₂, _∙_}
+use mathlib.Core.List.{List, [], _∷_, _++_, append-nil, append-assoc}
+use mathlib.Core.Bool.{Bool, true, false, _&&_}
+use native.Mathlib.Omega.{arith}
+use lib.Dec.{leb, eqb}
+use borrow.Author.Tests.{le-leb, leb-true, eqb-true}
+use lib.ListN.{length, getD, take, drop, length-append, length-drop}
+use lib.Seq.{drop-drop, take-append-seam, drop-append-seam}
+use Rattle.order.specs.Map.{Item}
+use Rattle.change.specs.Change.{Change, announce, withdraw, update}
+use Rattle.field.specs.declared.tag.Form.{Form}
+use Rattle.field.specs.declared.tag.Form.the-variants.{Snapshot, Delta}
+use Rattle.field.specs.Tag.{tagOf, kindOf, goodBody}
+use Rattle.field.specs.Key.{keyOf}
+use Rattle.field.specs.Origin.{goodOrigin}
+use Rattle.field.specs.RouterKey.{goodRouterKey}
+use Rattle.field.specs.Aspa.{ascending, asns, goodAspa, goodUpdate, goodProviders, formerSize, formerOf, newOf}
+use Rattle.payload.specs.Content.{Bytes, Content, countOf, entryOf, cellFor}
+use Rattle.payload.specs.Valid.{ValidValue, ValidChange, Valid, origin, routerKey, aspa, announced, withdrawn, updated}
+use Rattle.payload.proofs.Back.{both}
+
+abbrev item : {A : Type 0} → Bytes → A → Item Bytes A
+item k c = record { key = k; val = c }
+
+item-path : {A : Type 0} {k l : Bytes} {c d : A} → k ≡ l → c ≡ d → item k c ≡ item l d
+item-path p q = λ i. record { key = p i; val = q i }
+
+-- a customer's four bytes, so that what stands behind them computes
+data Four : Bytes → Type 0 where
+  four : (a b c d : ℕ) → Four (a ∷ b ∷ c ∷ d ∷ [])
+
+is-four : (k : Bytes) → length k ≡ 4 → Four k
+is-four [] h = absurd (omega arith)
+is-four (a ∷ []) h = absurd (omega arith)
+is-four (a ∷ b ∷ []) h = absurd (omega arith)
+is-four (a ∷ b ∷ c ∷ []) h = absurd (omega arith)
+is-four (a ∷ b ∷ c ∷ d ∷ []) h = four a b c d
+is-four (a ∷ b ∷ c ∷ d ∷ e ∷ k) h = absurd (omega arith)
+
+-- what a list of providers is
+pub providers-size : (p : Bytes) → goodProviders p ≡ true → (length p / 4 ≤ 4_096) × (length p % 4 ≡ 0)
+unfolding goodProviders
+providers-size p h =
+    let q = both (leb (length p / 4) 4_096 && eqb (length p % 4) 0) (ascending (asns p)) h in
+    let r = both (leb (length p / 4) 4_096) (eqb (length p % 4) 0) (q .0) in
+    (leb-true (length p / 4) 4_096 (r .0), eqb-true (length p % 4) 0 (r .1))
+
+-- an ASPA's body
+module _ (a b c d : ℕ) (v : Bytes) where
+  good-aspa : goodProviders v ≡ true → goodAspa (a ∷ b ∷ c ∷ d ∷ v) ≡ true
+  unfolding goodAspa
+  good-aspa h = rw (le-leb 4 (length (a ∷ b ∷ c ∷ d ∷ v)) (omega arith), h)
+
+-- an update's body
+module _ (a b c d : ℕ) (p n : Bytes) (h : goodProviders p ≡ true) where
+  abbrev body : Bytes
+  body = a ∷ b ∷ c ∷ d ∷ (countOf p ++ (p ++ n))
+
+  size : formerSize body ≡ length p
+  size = let l = (providers-size p h) .1 in omega arith
+
+  former : formerOf body ≡ p
+  former = rw size (take-append-seam p n)
+
+  new : newOf body ≡ n
+  new = rw size (sym (drop-drop (length p) 6 body) ∙ drop-append-seam p n)
+
+  good-update : goodProviders n ≡ true → goodUpdate body ≡ true
+  unfolding goodUpdate
+  good-update g =
+      let w : formerSize body ≤ length body - 6 = omega (arith, size, length-append p n) in
+      rw (le-leb 6 (length body) (omega arith), le-leb (formerSize body) (length body - 6) w, former, h, new, g)
+
+-- a valid item's field
+pub record Good (form : Form) (k : Bytes) (c : Content form) : Type 0 where
+  pub good : goodBody form (cellFor form (item k c) .tag) (cellFor form (item k c) .body) ≡ true
+  pub back : entryOf form (cellFor form (item k c)) ≡ item k c
+
+good-value : {k v : Bytes} → ValidValue k v → Good Snapshot k v
+unfolding goodBody tagOf kindOf keyOf
+good-value (origin {k = k} h) = record { good = rw append-nil h; back = item-path (ap (λ (l : Bytes). 1 ∷ l) (append-nil k)) refl }
+good-value (routerKey {k = k} h) = record { good = rw append-nil h; back = item-path (ap (λ (l : Bytes). 2 ∷ l) (append-nil k)) refl }
+good-value (aspa {k = k} {v = v} e h) = go k (is-four k e)
+  where
+    go : (k : Bytes) → Four k → Good Snapshot (3 ∷ k) v
+    go k (four a b c d) = record { good = good-aspa a b c d v h; back = refl }
+
+good-announce : {k n : Bytes} → ValidValue k n → Good Delta k (announce n)
+unfolding goodBody tagOf kindOf keyOf
+good-announce (origin {k = k} h) = record { good = rw append-nil h; back = item-path (ap (λ (l : Bytes). 1 ∷ l) (append-nil k)) refl }
+good-announce (routerKey {k = k} h) = record { good = rw append-nil h; back = item-path (ap (λ (l : Bytes). 2 ∷ l) (append-nil k)) refl }
+good-announce (aspa {k = k} {v = v} e h) = go k (is-four k e)
+  where
+    go : (k : Bytes) → Four k → Good Delta (3 ∷ k) (announce v)
+    go k (four a b c d) = record { good = good-aspa a b c d v h; back = refl }
+
+good-withdraw : {k p : Bytes} → ValidValue k p → Good Delta k (withdraw p)
+unfolding goodBody tagOf kindOf keyOf
+good-withdraw (origin {k = k} h) = record { good = rw append-nil h; back = item-path (ap (λ (l : Bytes). 1 ∷ l) (append-nil k)) refl }
+good-withdraw (routerKey {k = k} h) = record { good = rw append-nil h; back = item-path (ap (λ (l : Bytes). 2 ∷ l) (append-nil k)) refl }
+good-withdraw (aspa {k = k} {v = v} e h) = go k (is-four k e)
+  where
+    go : (k : Bytes) → Four k → Good Delta (3 ∷ k) (withdraw v)
+    go k (four a b c d) = record { good = good-aspa a b c d v h; back = refl }
+
+-- an ASPA's value has providers, whatever its customer
+providers : {k v : Bytes} → ValidValue (3 ∷ k) v → (length k ≡ 4) × (goodProviders v ≡ true)
+providers (aspa e h) = (e, h)
+
+good-updated : (k p n : Bytes) → length k ≡ 4 → goodProviders p ≡ true → goodProviders n ≡ true → Good Delta (3 ∷ k) (update p n)
+unfolding goodBody tagOf kindOf keyOf
+good-updated k p n e g h = go k (is-four k e)
+  where
+    go : (k : Bytes) → Four k → Good Delta (3 ∷ k) (update p n)
+    go k (four a b c d) = record { good = good-update a b c d p n g h; back = item-path refl (ap₂ update (former a b c d p n g) (new a b c d p n g)) }
+
+good-change : {k : Bytes} {c : Change Bytes} → ValidChange k c → Good Delta k c
+good-change (announced h) = good-announce h
+good-change (withdrawn h) = good-withdraw h
+good-change (updated {k = k} {p = p} {n = n} g h) = good-updated k p n (providers g .0) (providers g .1) (providers h .1)
+
+pub good : (form : Form) (x : Item Bytes (Content form)) → Valid form x → Good form (x .key) (x .val)
+good Snapshot x h = good-value h
+good Delta x h = good-change h

@@ -1,0 +1,5 @@
+pub mod Content
+pub mod Valid
+pub mod Payload
+pub mod Count
+pub mod Limit
