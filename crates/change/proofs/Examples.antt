@@ -1,14 +1,14 @@
 -- Worked examples over byte strings: K8, K9 and K10 of document 01, each row of the merge table, and the rows off a chain.
 use mathlib.Core.Path.{_≡_, refl}
 use mathlib.Core.List.{List, [], _∷_}
-use mathlib.Core.Option.{Option, none, some}
-use mathlib.Core.Bool.{true, false}
+use mathlib.Core.Option.{none, some}
+use mathlib.Core.Bool.{false}
 use Prim.Native.Nat.{ℕ}
 use Rattle.order.specs.Comparison.{bytes}
 use Rattle.order.specs.Map.{Item}
 use Rattle.order.specs.Walk.{walk}
 use Rattle.change.specs.Change.{Change, announce, withdraw, update}
-use Rattle.change.specs.Difference.{Snapshot, Delta, diff}
+use Rattle.change.specs.Difference.{Delta, diff}
 use Rattle.change.specs.Merge.{table, merge, mergeAll}
 use Rattle.change.specs.Application.{fits, apply}
 

@@ -6,7 +6,7 @@ use mathlib.Core.Bool.{true}
 use Rattle.order.specs.declared.Ordering.{Ordering}
 use Rattle.order.specs.declared.Ordering.the-variants.{Less, Equal, Greater}
 use Rattle.order.specs.Comparison.{TotalOrder}
-use Rattle.order.specs.Map.{Item, All, own, lookup, Sorted, Below}
+use Rattle.order.specs.Map.{Item, All, own, lookup, Sorted}
 use Rattle.order.proofs.Map.{absent-at}
 use Rattle.change.specs.Change.{Change}
 use Rattle.change.specs.Difference.{Snapshot, Delta}

@@ -1,17 +1,16 @@
 -- The laws of difference, merge and application at one key.
-use mathlib.Core.Path.{_≡_, refl, sym, _∙_}
+use mathlib.Core.Path.{_≡_, refl, _∙_}
 use mathlib.Core.Option.{Option, none, some}
-use mathlib.Core.Bool.{Bool, true, false}
+use mathlib.Core.Bool.{true}
 use Prim.Native.Nat.{ℕ}
 use native.Mathlib.Omega.{arith}
 use Rattle.order.specs.declared.Ordering.{Ordering}
 use Rattle.order.specs.declared.Ordering.the-variants.{Less, Equal, Greater}
 use Rattle.order.specs.Comparison.{TotalOrder}
-use Rattle.order.proofs.Comparison.{less≢equal, equal≢greater}
 use Rattle.change.specs.Change.{Change, announce, withdraw, update, unlessEqual, replace}
 use Rattle.change.specs.Difference.{diffAt}
-use Rattle.change.specs.Merge.{mergeAt, table}
-use Rattle.change.specs.Application.{isEqual, applyAt, fits, fitsAt}
+use Rattle.change.specs.Merge.{mergeAt}
+use Rattle.change.specs.Application.{applyAt, fitsAt}
 
 module _ {W : Type 0} {cmp : W → W → Ordering} (P : TotalOrder cmp) where
   -- equal values are no change, others are

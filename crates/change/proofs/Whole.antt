@@ -1,11 +1,9 @@
 -- Difference, merge and application of whole snapshots and deltas.
 use mathlib.Core.Path.{_≡_, refl, ap, _∙_}
-use mathlib.Core.List.{List, [], _∷_, map}
-use mathlib.Core.Option.{none}
+use mathlib.Core.List.{[], _∷_, map}
 use Rattle.order.specs.declared.Ordering.{Ordering}
 use Rattle.order.specs.Comparison.{TotalOrder}
 use Rattle.order.specs.Map.{Item, lookup, Sorted}
-use Rattle.order.specs.Walk.{walk}
 use Rattle.order.proofs.Map.{ext}
 use Rattle.order.proofs.Walk.{walk-nil, walk-left, walk-right, walk-sorted, walk-lookup}
 use Rattle.change.specs.Change.{Change, announce, withdraw}

@@ -1,20 +1,17 @@
 -- Laws of the three entries.
 use Prim.Native.Nat.{ℕ, _+_, _≤_, _<_}
-use mathlib.Core.Path.{_≡_, refl, sym, ap, ap₂, subst, _∙_}
-use mathlib.Core.List.{List, [], _∷_, _++_, map}
-use mathlib.Core.Option.{Option, none, some}
+use mathlib.Core.Path.{_≡_, refl, sym, ap, ap₂, _∙_}
+use mathlib.Core.List.{List, [], _∷_, map}
 use mathlib.Core.Bool.{Bool, true, false, cond}
 use native.Mathlib.Omega.{arith}
 use native.Mathlib.Nat.{zero-add}
 use borrow.Author.Tests.{leb-true, leb-false, le-leb, lt-leb, eq-eqb, ne-eqb}
-use lib.Dec.{leb, eqb}
-use lib.ListN.{length, drop}
+use lib.Dec.{leb}
+use lib.ListN.{length}
 use Rattle.order.specs.Comparison.{bytes}
-use Rattle.order.specs.Map.{Item, All, lookup}
+use Rattle.order.specs.Map.{All, lookup}
 use Rattle.order.proofs.Comparison.{strings}
-use Rattle.change.specs.Change.{Change}
 use Rattle.change.specs.Difference as change
-use Rattle.change.specs.Merge.{merge}
 use Rattle.change.specs.Application.{fits, apply, Applies}
 use Rattle.change.proofs.Whole.{asNew, diff-new, diff-as-merge, apply-as-merge}
 use Rattle.change.proofs.Items.{ItemFits, fit-items}
@@ -48,12 +45,12 @@ use Rattle.delta.specs.declared.walk.Output.the-variants.{NoRoom, Writte
 use Rattle.delta.specs.declared.construct.Constructed.the-variants as constructed
 use Rattle.delta.specs.declared.merge.Merged.the-variants as merged
 use Rattle.delta.specs.declared.apply.Applied.the-variants as applied
-use Rattle.delta.specs.Admission.{andThen, limitOf, judgedOf, refusalOf, admitOneOf, admitOf}
-use Rattle.delta.specs.Reading.{formOf, readAs, Ready}
+use Rattle.delta.specs.Admission.{andThen, limitOf, judgedOf, refusalOf, admitOf}
+use Rattle.delta.specs.Reading.{formOf, Ready}
 use Rattle.delta.specs.Write.{cellAs, writes, plusAll, zero}
 use Rattle.delta.specs.Walk.{Runs, mergedAs, outputOf, wholeOut}
 use Rattle.delta.specs.Fit.{misfit, fitOf}
-use Rattle.delta.specs.Answer.{differenceOf, mergedOf, appliedOf, countsOf, outAfter, constructOf, constructOut, mergeOf, mergeOut, fitRefusal, applyAdmitted, applyOf, applyOut}
+use Rattle.delta.specs.Answer.{differenceOf, mergedOf, appliedOf, countsOf, outAfter, constructOf, constructOut, mergeOf, mergeOut, applyOf, applyOut}
 use Rattle.delta.proofs.Putting.{counts-path}
 
 -- ---- what was admitted is good, and within its limit

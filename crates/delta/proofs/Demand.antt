@@ -1,15 +1,13 @@
 -- Demand 3, first part: what the answers of the three entries come to for good snapshots A, B and C within their limit.
-use Prim.Native.Nat.{ℕ, _+_, _≤_}
+use Prim.Native.Nat.{ℕ, _≤_}
 use mathlib.Core.Path.{_≡_, refl, sym, ap, _∙_}
-use mathlib.Core.List.{List, [], _∷_, _++_}
+use mathlib.Core.List.{[], _∷_, _++_}
 use mathlib.Core.Bool.{Bool, true, false, cond}
 use lib.Dec.{leb, eqb}
 use native.Mathlib.Omega.{arith}
 use borrow.Author.Tests.{le-leb, eq-eqb, ne-eqb, eqb-true}
 use lib.ListN.{length, drop}
-use Rattle.order.specs.Comparison.{bytes}
 use Rattle.order.proofs.Comparison.{strings}
-use Rattle.change.specs.Difference.{diff}
 use Rattle.change.proofs.Whole.{compose}
 use Rattle.serial.specs.declared.Serial.{Serial}
 use Rattle.serial.specs.Serial.{nextOf}
@@ -27,12 +25,11 @@ use Rattle.payload.proofs.Sizes.{diff-length}
 use Rattle.delta.specs.declared.refusal.Refusal.the-variants.{NoRoom}
 use Rattle.delta.specs.declared.sink.Counts.{Counts}
 use Rattle.delta.specs.declared.admit.Admitted.the-variants.{Yes}
-use Rattle.delta.specs.declared.fit.Fit.the-variants.{All}
 use Rattle.delta.specs.declared.construct.Constructed.the-variants as constructed
 use Rattle.delta.specs.declared.merge.Merged.the-variants as merged
 use Rattle.delta.specs.declared.apply.Applied.the-variants as applied
 use Rattle.delta.specs.Admission.{admitOf}
-use Rattle.delta.specs.Answer.{differenceOf, mergedOf, appliedOf, countsOf, outAfter, constructOf, constructOut, mergeOf, mergeOut, applyAdmitted, applyOf, applyOut}
+use Rattle.delta.specs.Answer.{differenceOf, mergedOf, countsOf, outAfter, constructOf, constructOut, mergeOf, mergeOut, applyAdmitted, applyOf, applyOut}
 use Rattle.delta.proofs.Differences.{Good, good-map, difference-fine, difference-says, difference-fits, difference-yields, difference-empty, difference-self}
 
 -- a good snapshot within its limit

@@ -1,8 +1,7 @@
 -- Laws of read_at: what stands at a place of a good run.
-use Prim.Native.Nat.{ℕ, _+_, _-_, _≤_, _<_}
+use Prim.Native.Nat.{ℕ, _≤_}
 use mathlib.Core.Path.{_≡_, refl, sym, ap, _∙_}
-use mathlib.Core.List.{[], _∷_}
-use mathlib.Core.Bool.{true}
+use mathlib.Core.List.{_∷_}
 use native.Mathlib.Omega.{arith}
 use lib.ListN.{length, drop}
 use Rattle.order.specs.Map.{Item}
@@ -13,22 +12,20 @@ use Rattle.field.specs.declared.tag.Form.{Form}
 use Rattle.field.specs.declared.tag.Action.{Action}
 use Rattle.field.specs.declared.tag.Tag.{Tag}
 use Rattle.field.specs.declared.key.Key.{Key}
-use Rattle.field.specs.Tag.{tagOf, kindOf, goodBody}
+use Rattle.field.specs.Tag.{tagOf, kindOf}
 use Rattle.field.specs.Key.{keyOf}
 use Rattle.field.specs.Cells.{Cell}
 use Rattle.field.specs.Places.{part, fieldAt, keyIn, keyPlace}
 use Rattle.field.proofs.Fields.{whole-at, body-ordered, body-within, field-long}
 use Rattle.field.proofs.Keys.{key-fits, key-in}
-use Rattle.field.proofs.Walk.{GoodAt, good-end, good-cells, good-cut, good-body, good-next}
+use Rattle.field.proofs.Walk.{good-end, good-cells, good-cut, good-body, good-next}
 use Rattle.payload.specs.Content.{Bytes, actionOf}
-use Rattle.delta.specs.declared.place.Part.{Part}
 use Rattle.delta.specs.declared.place.Act.{Act}
 use Rattle.delta.specs.declared.reading.Reading.{Reading}
 use Rattle.delta.specs.declared.reading.Reading.the-variants.{Withdrawn, Announced, Changes}
-use Rattle.delta.specs.declared.reading.Read.{Read}
 use Rattle.delta.specs.declared.reading.Read.the-variants as read
-use Rattle.delta.specs.Place.{changeIn, itemIn, KeyIn, ActFits}
-use Rattle.delta.specs.Reading.{itemAs, formOf, readAs, actPlace, Splits, Ready, EntryFits, Reads}
+use Rattle.delta.specs.Place.{changeIn}
+use Rattle.delta.specs.Reading.{itemAs, formOf, readAs, actPlace, Splits, Ready, Reads}
 use Rattle.delta.proofs.Readings.{says-nil, says-cons}
 use Rattle.delta.proofs.Places.{body-length, Entered, entered}
 

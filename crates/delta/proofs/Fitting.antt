@@ -1,9 +1,9 @@
 -- Laws of application: the first item of a delta that cannot be applied.
-use Prim.Native.Nat.{ℕ, _+_, _-_, _≤_, _<_}
-use mathlib.Core.Path.{_≡_, refl, sym, ap, ap₂, subst, _∙_}
+use Prim.Native.Nat.{ℕ, _+_, _-_, _<_}
+use mathlib.Core.Path.{_≡_, refl, sym, ap, subst, _∙_}
 use mathlib.Core.List.{List, [], _∷_, map}
 use mathlib.Core.Option.{Option, none, some}
-use mathlib.Core.Bool.{Bool, true, false, not, cond}
+use mathlib.Core.Bool.{Bool, true, false, not}
 use native.Mathlib.Omega.{arith}
 use borrow.Author.Tests.{not-true, not-false}
 use lib.ListN.{length, drop}
@@ -13,7 +13,7 @@ use Rattle.order.specs.Comparison.{bytes, flip}
 use Rattle.order.specs.Map.{Item, lookup, own, Below, Sorted}
 use Rattle.order.proofs.Comparison.{strings}
 use Rattle.order.proofs.Map.{absent}
-use Rattle.change.specs.Change.{Change, announce, withdraw, update}
+use Rattle.change.specs.Change.{Change, announce}
 use Rattle.change.specs.Difference as change
 use Rattle.change.specs.Application.{fits, isEqual}
 use Rattle.change.proofs.Whole.{asNew, diff-new}
@@ -37,10 +37,10 @@ use Rattle.delta.specs.declared.turn.Turn.the-variants.{Over, Left, Righ
 use Rattle.delta.specs.declared.fit.Fit.{Fit}
 use Rattle.delta.specs.declared.fit.Fit.the-variants as fit
 use Rattle.delta.specs.Place.{partIn, changeIn, itemIn, PartFits, ActFits}
-use Rattle.delta.specs.Reading.{readAs, itemAs, Ready, EntryFits, FieldIs, Reads}
+use Rattle.delta.specs.Reading.{readAs, Ready, FieldIs, Reads}
 use Rattle.delta.specs.Turn.{TurnIs}
 use Rattle.delta.specs.Fit.{misfit, fitOf, absentPlace, valuePlace}
-use Rattle.delta.proofs.Sinking.{fits-announce, fits-withdraw, fits-former, fits-new}
+use Rattle.delta.proofs.Sinking.{fits-withdraw, fits-former}
 
 -- ---- the small functions
 

@@ -1,13 +1,12 @@
 -- Where the parts of a good body lie: the body is the part of s from `from` up to `to`.
 use Prim.Native.Nat.{ℕ, zero, suc, _+_, _-_, _*_, _≤_, _<_, min}
-use mathlib.Core.Path.{_≡_, refl, sym, ap, ap₂, _∙_}
-use mathlib.Core.List.{List, [], _∷_}
+use mathlib.Core.Path.{_≡_, sym, ap, ap₂, _∙_}
+use mathlib.Core.List.{[], _∷_}
 use mathlib.Core.Bool.{true}
 use native.Mathlib.Omega.{arith}
 use lib.ListN.{length, getD, take, drop, length-take, length-drop}
 use lib.Seq.{take-nil, drop-drop, take-take, getD-take, getD-drop}
-use Rattle.change.specs.Change.{Change, announce, withdraw, update}
-use Rattle.field.specs.declared.tag.Form.the-variants as form
+use Rattle.change.specs.Change.{announce, withdraw, update}
 use Rattle.field.specs.Number.{twoAt}
 use Rattle.field.specs.Tag.{tagOf, kindOf, goodBody}
 use Rattle.field.specs.Aspa.{goodAspa, goodUpdate, formerSize, formerOf, newOf}
@@ -17,12 +16,10 @@ use Rattle.payload.specs.Content.{Bytes, actionOf}
 use Rattle.payload.proofs.Known as known
 use Rattle.payload.proofs.Known.{Known}
 use Rattle.delta.specs.declared.place.Part.{Part}
-use Rattle.delta.specs.declared.place.Act.{Act}
-use Rattle.delta.specs.declared.place.Act.the-variants.{Announce, Withdraw, Update}
 use Rattle.delta.specs.declared.reading.Reading.{Reading}
 use Rattle.delta.specs.declared.reading.Reading.the-variants.{Withdrawn, Announced, Changes}
 use Rattle.delta.specs.Place.{partIn, changeIn, PartFits, ActFits}
-use Rattle.delta.specs.Reading.{itemAs, formOf, middle, splitPlace, actPlace, SplitFits, Splits}
+use Rattle.delta.specs.Reading.{itemAs, formOf, middle, actPlace, SplitFits, Splits}
 
 drop-take : (i m : ℕ) (l : Bytes) → drop i (take m l) ≡ take (m - i) (drop i l)
 drop-take zero m l = let e : m - 0 ≡ m = omega arith in rw e

@@ -1,25 +1,22 @@
 -- Laws of put_item: the field of an item, written part by part.
-use Prim.Native.Nat.{ℕ, suc, _+_, _-_, _*_, _/_, _%_, _^_, _<_, _≤_}
+use Prim.Native.Nat.{ℕ, suc, _+_, _/_, _%_, _^_, _<_, _≤_}
 use mathlib.Core.Path.{_≡_, refl, sym, ap, _∙_}
-use mathlib.Core.List.{List, [], _∷_, _++_}
+use mathlib.Core.List.{[], _∷_, _++_}
 use native.Mathlib.Omega.{arith}
 use lib.ListN.{length, set, length-append}
 use lib.Seq.{sets}
-use Rattle.order.specs.Map.{Item}
-use Rattle.change.specs.Change.{Change}
 use Rattle.field.specs.declared.tag.Form.{Form}
 use Rattle.field.specs.declared.tag.Form.the-variants.{Snapshot, Delta}
 use Rattle.field.specs.declared.key.Key.{Key}
 use Rattle.field.specs.Cells.{field}
-use Rattle.field.specs.Places.{part}
-use Rattle.payload.specs.Content.{Bytes, digit, valuesFor}
+use Rattle.payload.specs.Content.{Bytes, valuesFor}
 use Rattle.payload.specs.Count.{announces, withdraws}
 use Rattle.delta.specs.declared.place.Part.{Part}
 use Rattle.delta.specs.declared.place.Act.{Act}
 use Rattle.delta.specs.declared.place.Act.the-variants.{Announce, Withdraw, Update}
 use Rattle.delta.specs.declared.sink.Counts.{Counts}
 use Rattle.delta.specs.Place.{partIn, partSize, keySize, changeIn, itemIn, valuesSize, Lies, PartSized, ActFits, KeyIn}
-use Rattle.delta.specs.Write.{tagAs, fieldAs, plusItem, tagPlace, plusPlace, Room}
+use Rattle.delta.specs.Write.{tagAs, fieldAs, plusItem, tagPlace, plusPlace}
 use Rattle.delta.proofs.Sinking.{act-sized, part-length, values-length, sets-append}
 
 -- where a key's bytes lie

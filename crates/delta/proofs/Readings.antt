@@ -1,49 +1,26 @@
 -- Laws of reading a good run as changes.
-use Prim.Native.Nat.{ℕ, _+_, _-_, _*_, _/_, _%_, _≤_, _<_, min}
-use mathlib.Core.Path.{_≡_, refl, sym, ap, ap₂, _∙_}
-use mathlib.Core.List.{List, [], _∷_, _++_, map}
-use mathlib.Core.Bool.{Bool, true, false, cond}
-use native.Mathlib.Omega.{arith}
-use lib.ListN.{length, getD, take, drop, length-take, length-drop}
-use lib.Seq.{drop-drop, take-take, getD-take, getD-drop}
+use Prim.Native.Nat.{ℕ, _+_, _*_}
+use mathlib.Core.Path.{_≡_, sym, ap, _∙_}
+use mathlib.Core.List.{List, [], _∷_, map}
 use Rattle.order.specs.Comparison.{bytes}
 use Rattle.order.specs.Map.{Item}
-use Rattle.change.specs.Change.{Change, announce, withdraw, update}
+use Rattle.change.specs.Change.{Change}
 use Rattle.change.specs.Difference.{diff}
 use Rattle.change.proofs.Whole.{asNew, asGone, diff-new, diff-gone}
-use Rattle.field.specs.declared.head.Field.{Field}
-use Rattle.field.specs.declared.head.Field.the-variants.{End, Cut, Whole}
 use Rattle.field.specs.declared.tag.Form.{Form}
 use Rattle.field.specs.declared.tag.Form.the-variants as form
 use Rattle.field.specs.declared.tag.Action.{Action}
 use Rattle.field.specs.declared.tag.Action.the-variants as action
-use Rattle.field.specs.declared.key.Key.{Key}
 use Rattle.field.specs.Number.{twoAt}
-use Rattle.field.specs.Tag.{tagOf, kindOf, goodBody}
-use Rattle.field.specs.Key.{keyOf}
-use Rattle.field.specs.Aspa.{formerSize, formerOf, newOf, goodProviders}
 use Rattle.field.specs.Cells.{Cell, cells}
-use Rattle.field.specs.Places.{part, fieldAt, keyIn, keyPlace}
-use Rattle.field.proofs.Fields.{body-ordered, body-within, field-long}
-use Rattle.field.proofs.Keys.{key-fits, key-in}
-use Rattle.field.proofs.Walk.{GoodAt, good-end, good-cells, good-cut, good-body, good-next}
-use Rattle.payload.specs.Content.{Bytes, actionOf, valueOf, changeOf, contentOf, entryOf}
-use Rattle.payload.specs.Valid.{ValidValue, ValidChange, Valid, origin, routerKey, aspa, announced, withdrawn, updated}
-use Rattle.payload.specs.Payload.{entries, items, changes}
-use Rattle.payload.proofs.Known as known
-use Rattle.payload.proofs.Known.{Known}
-use Rattle.payload.proofs.Back.{says-valid}
-use Rattle.payload.proofs.Forth.{providers-size}
+use Rattle.payload.specs.Content.{Bytes, entryOf}
+use Rattle.payload.specs.Payload.{entries, items}
 use Rattle.delta.specs.declared.place.Part.{Part}
 use Rattle.delta.specs.declared.place.Act.{Act}
 use Rattle.delta.specs.declared.place.Act.the-variants.{Announce, Withdraw, Update}
-use Rattle.delta.specs.declared.place.Entry.{Entry}
 use Rattle.delta.specs.declared.reading.Reading.{Reading}
 use Rattle.delta.specs.declared.reading.Reading.the-variants.{Withdrawn, Announced, Changes}
-use Rattle.delta.specs.declared.reading.Read.{Read}
-use Rattle.delta.specs.declared.reading.Read.the-variants as read
-use Rattle.delta.specs.Place.{partIn, partSize, changeIn, itemIn, PartFits, ActFits, KeyIn}
-use Rattle.delta.specs.Reading.{itemAs, formOf, readAs, heldPlace, middle, splitPlace, actPlace, SplitFits, Splits, Ready, EntryFits, ReadFits, readIs, Reads}
+use Rattle.delta.specs.Reading.{itemAs, readAs, heldPlace, splitPlace, actPlace, SplitFits, Splits}
 
 -- ---- the small functions
 

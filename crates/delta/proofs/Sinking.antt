@@ -1,26 +1,20 @@
 -- Laws of writing into a lent slice.
 use Prim.Native.Nat.{ℕ, suc, _+_, _-_, _*_, _/_, _%_, _^_, _<_, _≤_}
 use mathlib.Core.Path.{_≡_, refl, sym, ap, _∙_}
-use mathlib.Core.List.{List, [], _∷_, _++_}
+use mathlib.Core.List.{[], _∷_, _++_}
 use native.Mathlib.Omega.{arith}
 use native.Mathlib.Nat.{add-zero}
 use lib.ListN.{length, getD, take, drop, set, length-set, length-append, length-take, length-drop}
-use lib.Seq.{sets, length-sets, set-out, drop-cons}
-use Rattle.order.specs.Map.{Item}
-use Rattle.change.specs.Change.{Change, announce, withdraw, update}
+use lib.Seq.{sets, set-out, drop-cons}
 use Rattle.field.specs.declared.tag.Form.{Form}
 use Rattle.field.specs.declared.tag.Form.the-variants.{Snapshot, Delta}
-use Rattle.field.specs.declared.key.Key.{Key}
-use Rattle.field.specs.Places.{part, keyIn}
-use Rattle.field.specs.Cells.{field}
-use Rattle.payload.specs.Content.{Bytes, digit, countOf, valuesFor}
-use Rattle.payload.specs.Count.{announces, withdraws}
+use Rattle.payload.specs.Content.{Bytes, countOf, valuesFor}
 use Rattle.delta.specs.declared.place.Part.{Part}
 use Rattle.delta.specs.declared.place.Act.{Act}
 use Rattle.delta.specs.declared.place.Act.the-variants.{Announce, Withdraw, Update}
 use Rattle.delta.specs.declared.sink.Counts.{Counts}
-use Rattle.delta.specs.Place.{partIn, partSize, changeIn, itemIn, valuesSize, Lies, PartFits, ActFits, PartSized, ActSized, KeyIn}
-use Rattle.delta.specs.Write.{tagAs, fieldAs, plusItem, digitPlace, tagPlace, plusPlace, Room}
+use Rattle.delta.specs.Place.{partIn, partSize, changeIn, valuesSize, Lies, PartFits, ActFits, PartSized, ActSized}
+use Rattle.delta.specs.Write.{tagPlace, plusPlace}
 
 -- ---- stores
 

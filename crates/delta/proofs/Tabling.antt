@@ -1,11 +1,11 @@
 -- Laws of the merge table by places.
-use mathlib.Core.Path.{_≡_, refl, sym, ap, _∙_}
-use mathlib.Core.Option.{Option, none, some}
+use mathlib.Core.Path.{_≡_, refl}
+use mathlib.Core.Option.{Option}
 use mathlib.Core.Logic.{_⊎_, inl, inr}
 use Rattle.order.specs.declared.Ordering.{Ordering}
 use Rattle.order.specs.declared.Ordering.the-variants.{Less, Equal, Greater}
 use Rattle.order.specs.Comparison.{bytes}
-use Rattle.change.specs.Change.{Change, announce, withdraw, update, replace}
+use Rattle.change.specs.Change.{Change, replace}
 use Rattle.change.specs.Merge.{table}
 use Rattle.payload.specs.Content.{Bytes}
 use Rattle.delta.specs.declared.place.Part.{Part}

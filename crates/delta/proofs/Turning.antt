@@ -1,13 +1,10 @@
 -- Laws of a turn of the walk.
-use Prim.Native.Nat.{ℕ, _+_, _≤_, _<_}
-use mathlib.Core.Path.{_≡_, refl, sym, ap, _∙_}
-use mathlib.Core.List.{[], _∷_}
-use lib.ListN.{length, drop}
+use Prim.Native.Nat.{ℕ}
+use mathlib.Core.Path.{_≡_, sym, ap, _∙_}
 use Rattle.order.specs.declared.Ordering.{Ordering}
 use Rattle.order.specs.declared.Ordering.the-variants.{Less, Equal, Greater}
-use Rattle.order.specs.Comparison.{bytes, flip, TotalOrder}
+use Rattle.order.specs.Comparison.{bytes, flip}
 use Rattle.order.proofs.Comparison.{strings}
-use Rattle.field.specs.declared.key.Key.{Key}
 use Rattle.field.specs.Places.{KeyFits, keyIn}
 use Rattle.payload.specs.Content.{Bytes}
 use Rattle.delta.specs.declared.place.Entry.{Entry}
@@ -15,9 +12,8 @@ use Rattle.delta.specs.declared.reading.Reading.{Reading}
 use Rattle.delta.specs.declared.reading.Read.{Read}
 use Rattle.delta.specs.declared.reading.Read.the-variants.{End, One}
 use Rattle.delta.specs.declared.turn.Side.the-variants as side
-use Rattle.delta.specs.declared.turn.Turn.{Turn}
 use Rattle.delta.specs.declared.turn.Turn.the-variants.{Over, Left, Right, Both}
-use Rattle.delta.specs.Reading.{readAs, EntryFits, Reads}
+use Rattle.delta.specs.Reading.{Reads}
 use Rattle.delta.specs.Turn.{TurnIs}
 
 -- the key of what was read lies in the run

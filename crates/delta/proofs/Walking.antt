@@ -1,14 +1,14 @@
 -- Laws of the walk: what was written and counted so far, with what is left, is the whole.
-use Prim.Native.Nat.{ℕ, _+_, _-_, _*_, _^_, _<_, _≤_}
+use Prim.Native.Nat.{ℕ, _+_, _-_, _*_, _<_, _≤_}
 use mathlib.Core.Path.{_≡_, refl, sym, ap, ap₂, _∙_}
-use mathlib.Core.List.{List, [], _∷_, _++_, append-nil, append-assoc, map}
+use mathlib.Core.List.{List, [], _∷_, _++_, append-nil, append-assoc}
 use mathlib.Core.Option.{Option, none, some}
 use native.Mathlib.Omega.{arith}
 use native.Mathlib.Nat.{zero-add}
 use borrow.Author.Tests.{le-leb, lt-leb}
 use lib.ListN.{length, drop, length-append}
 use lib.Seq.{sets, length-sets, sets-eq}
-use Rattle.order.specs.declared.Ordering.the-variants.{Less, Equal}
+use Rattle.order.specs.declared.Ordering.the-variants.{Equal}
 use Rattle.order.specs.Comparison.{bytes, flip}
 use Rattle.order.specs.Map.{Item, Below}
 use Rattle.order.specs.Walk.{emit, walk}
@@ -36,7 +36,7 @@ use Rattle.delta.specs.declared.turn.Side.{Side}
 use Rattle.delta.specs.declared.turn.Side.the-variants as side
 use Rattle.delta.specs.declared.turn.Turn.{Turn}
 use Rattle.delta.specs.declared.turn.Turn.the-variants.{Over, Left, Right, Both}
-use Rattle.delta.specs.Place.{changeIn, itemIn, heldIn, ActFits, KeyIn, Holds}
+use Rattle.delta.specs.Place.{changeIn, itemIn, ActFits, KeyIn, Holds}
 use Rattle.delta.specs.Reading.{readAs, Ready, EntryFits, Reads}
 use Rattle.delta.specs.declared.walk.Step.{Step}
 use Rattle.delta.specs.declared.walk.Step.the-variants as step

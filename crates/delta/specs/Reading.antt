@@ -1,7 +1,7 @@
 -- A run of fields read as changes.
 use Prim.Native.Nat.{ℕ, _+_, _*_, _≤_, _<_}
 use mathlib.Core.Path.{_≡_}
-use mathlib.Core.List.{List, [], _∷_}
+use mathlib.Core.List.{[], _∷_}
 use lib.ListN.{length, drop}
 use Rattle.order.specs.Comparison.{bytes}
 use Rattle.order.specs.Map.{Item}

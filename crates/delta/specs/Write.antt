@@ -1,6 +1,6 @@
 -- What is written of a list of changes, and its counts.
 use Prim.Native.Nat.{ℕ, _+_, _*_, _^_, _<_}
-use mathlib.Core.List.{List, _++_, map}
+use mathlib.Core.List.{_++_, map}
 use lib.ListN.{length, getD, drop}
 use Rattle.order.specs.Map.{Item}
 use Rattle.change.specs.Change.{Change}

@@ -1,33 +1,24 @@
 -- A good field is the field of what it says, and what it says is valid.
-use Prim.Native.Nat.{ℕ, _+_, _-_, _*_, _/_, _%_, _≤_, _<_}
-use mathlib.Core.Path.{_≡_, refl, sym, ap, ap₂, _∙_}
-use mathlib.Core.List.{List, [], _∷_, _++_, append-nil, append-assoc}
-use mathlib.Core.Bool.{Bool, true, false, _&&_}
+use Prim.Native.Nat.{ℕ, _/_, _%_}
+use mathlib.Core.Path.{_≡_, refl, sym, ap, _∙_}
+use mathlib.Core.List.{[], _∷_, _++_, append-nil}
+use mathlib.Core.Bool.{true}
 use native.Mathlib.Omega.{arith}
-use lib.Dec.{leb, eqb}
-use borrow.Author.Tests.{leb-true, eqb-true}
 use lib.ListN.{length, getD, take, drop, length-take, length-drop, take-append-drop}
 use lib.Seq.{drop-drop, drop-cons}
-use Rattle.change.specs.Change.{Change, announce, withdraw, update}
+use Rattle.change.specs.Change.{update}
 use Rattle.field.specs.declared.tag.Form.{Form}
 use Rattle.field.specs.declared.tag.Form.the-variants.{Snapshot, Delta}
 use Rattle.field.specs.Tag.{tagOf, kindOf, goodBody}
 use Rattle.field.specs.Key.{keyOf}
-use Rattle.field.specs.Origin.{goodOrigin}
-use Rattle.field.specs.RouterKey.{goodRouterKey}
-use Rattle.field.specs.Aspa.{goodAspa, goodUpdate, goodProviders, formerSize, formerOf, newOf}
+use Rattle.field.specs.Aspa.{goodAspa, goodUpdate, formerSize, formerOf, newOf}
 use Rattle.field.specs.Cells.{Cell}
 use Rattle.field.proofs.Encode.{AllBytes}
-use Rattle.payload.specs.Content.{Bytes, Content, countOf, entryOf, cellFor}
+use Rattle.field.proofs.Sizes.{aspa-parts, UpdateParts, update-parts}
+use Rattle.payload.specs.Content.{Bytes, countOf, entryOf, cellFor}
 use Rattle.payload.specs.Valid.{ValidValue, ValidChange, Valid, origin, routerKey, aspa, announced, withdrawn, updated}
 use Rattle.payload.proofs.Known as known
 use Rattle.payload.proofs.Known.{Known}
-
--- both tests hold
-pub both : (s t : Bool) → (s && t) ≡ true → (s ≡ true) × (t ≡ true)
-both true true h = (refl, refl)
-both true false h = absurd (let z : _≡_ {A = ℕ} 0 1 = cc in omega arith)
-both false t h = absurd (let z : _≡_ {A = ℕ} 0 1 = cc in omega arith)
 
 abbrev cell : ℕ → Bytes → Cell
 cell tag b = record { tag = tag; body = b }
@@ -36,35 +27,25 @@ cell-path : {t u : ℕ} {b c : Bytes} → t ≡ u → b ≡ c → cell t b ≡ c
 cell-path p q = λ i. record { tag = p i; body = q i }
 
 -- the body of an ASPA: a customer of 4 bytes, then providers
-module _ (b : Bytes) (h : goodAspa b ≡ true) where
-  parts : (4 ≤ length b) × (goodProviders (drop 4 b) ≡ true)
-  unfolding goodAspa
-  parts = let p = both (leb 4 (length b)) (goodProviders (drop 4 b)) h in (leb-true 4 (length b) (p .0), p .1)
-
-  pub aspa-valid : ValidValue (3 ∷ take 4 b) (drop 4 b)
-  aspa-valid =
-      let l = parts .0 in
-      let k : length (take 4 b) ≡ 4 = simp length-take (omega arith) in
-      aspa k (parts .1)
+pub aspa-valid : (b : Bytes) → goodAspa b ≡ true → ValidValue (3 ∷ take 4 b) (drop 4 b)
+aspa-valid b h =
+    let p = aspa-parts b h in
+    let k : length (take 4 b) ≡ 4 = simp length-take (omega (arith, p .customer)) in
+    aspa k (p .providers)
 
 -- the body of an update: a customer, a count, the former providers, the new ones
 module _ (b : Bytes) (h : goodUpdate b ≡ true) where
-  tests : (6 ≤ length b) × (formerSize b ≤ length b - 6) × (goodProviders (formerOf b) ≡ true) × (goodProviders (newOf b) ≡ true)
-  unfolding goodUpdate
-  tests =
-      let p = both (leb 6 (length b) && leb (formerSize b) (length b - 6) && goodProviders (formerOf b)) (goodProviders (newOf b)) h in
-      let q = both (leb 6 (length b) && leb (formerSize b) (length b - 6)) (goodProviders (formerOf b)) (p .0) in
-      let r = both (leb 6 (length b)) (leb (formerSize b) (length b - 6)) (q .0) in
-      (leb-true _ _ (r .0), leb-true _ _ (r .1), q .1, p .1)
+  parts : UpdateParts b
+  parts = update-parts b h
 
   pub update-valid : ValidChange (3 ∷ take 4 b) (update (formerOf b) (newOf b))
   update-valid =
-      let l = tests .0 in
-      let k : length (take 4 b) ≡ 4 = simp length-take (omega arith) in
-      updated (aspa k (tests .2)) (aspa k (tests .3))
+      let p = parts in
+      let k : length (take 4 b) ≡ 4 = simp length-take (omega (arith, p .head)) in
+      updated (aspa k (p .former)) (aspa k (p .new))
 
   former-length : length (formerOf b) ≡ formerSize b
-  former-length = let l = tests .0 in let m = tests .1 in simp (length-take, length-drop) (omega arith)
+  former-length = simp (length-take, length-drop) (omega (arith, parts .head))
 
   count-back : AllBytes b → countOf (formerOf b) ≡ getD b 4 0 ∷ getD b 5 0 ∷ []
   count-back o =
@@ -77,7 +58,7 @@ module _ (b : Bytes) (h : goodUpdate b ≡ true) where
 
   pub update-back : AllBytes b → take 4 b ++ (countOf (formerOf b) ++ (formerOf b ++ newOf b)) ≡ b
   update-back o =
-      let l = tests .0 in
+      let l = parts .head in
       let d4 : drop 4 b ≡ getD b 4 0 ∷ drop 5 b = drop-cons b 4 0 (omega arith) in
       let d5 : drop 5 b ≡ getD b 5 0 ∷ drop 6 b = drop-cons b 5 0 (omega arith) in
       let r : formerOf b ++ newOf b ≡ drop 6 b = ap (λ (t : Bytes). formerOf b ++ t) (sym (drop-drop (formerSize b) 6 b)) ∙ take-append-drop (formerSize b) (drop 6 b) in

@@ -1,6 +1,6 @@
 -- Difference, merge and application of valid maps are valid maps.
 use mathlib.Core.Path.{_≡_, refl}
-use mathlib.Core.List.{List, [], _∷_, foldl}
+use mathlib.Core.List.{[], List, _∷_, foldl}
 use mathlib.Core.Option.{Option, none, some}
 use mathlib.Core.Logic.{_⊎_, inl, inr}
 use Rattle.order.specs.declared.Ordering.{Ordering}

@@ -1,12 +1,11 @@
 -- The counts of tags are the counts of changes.
 use Prim.Native.Nat.{ℕ, _+_, _*_, _%_}
 use mathlib.Core.Path.{_≡_, refl, sym, ap, ap₂, _∙_}
-use mathlib.Core.List.{List, [], _∷_, map}
+use mathlib.Core.List.{[], _∷_, map}
 use mathlib.Core.Bool.{Bool, cond}
 use mathlib.Core.Logic.{_⊎_, inl, inr}
 use native.Mathlib.Omega.{arith}
 use lib.ListN.{getD}
-use Rattle.order.specs.Map.{Item}
 use Rattle.change.specs.Change.{Change, announce, withdraw, update}
 use Rattle.change.specs.Difference as change
 use Rattle.field.specs.declared.tag.Form.the-variants.{Delta}
@@ -15,7 +14,7 @@ use Rattle.field.specs.Verdict.{verdict}
 use Rattle.field.specs.Cells.{cells}
 use Rattle.field.proofs.Encode.{AllBytes, cells-encode}
 use Rattle.payload.specs.Content.{Bytes, digit, cellFor}
-use Rattle.payload.specs.Payload.{entries, encode, changes}
+use Rattle.payload.specs.Payload.{encode, changes}
 use Rattle.payload.specs.Count.{isAnnounced, isWithdrawn, countTags, announced, withdrawn, announces, withdraws, sumOf}
 use Rattle.payload.proofs.Faithful.{faithful}
 

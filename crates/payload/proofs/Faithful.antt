@@ -1,12 +1,9 @@
 -- Good snapshots and deltas are the maps of valid items, each with exactly one byte form.
 use Prim.Native.Nat.{ℕ, suc, _≤_, _<_}
 use mathlib.Core.Path.{_≡_, refl, sym, ap, ap₂, _∙_}
-use mathlib.Core.List.{List, [], _∷_, _++_, map}
-use mathlib.Core.Bool.{true}
+use mathlib.Core.List.{[], List, _∷_, _++_, map}
 use native.Mathlib.Omega.{arith}
 use native.Mathlib.Decide.{decLe}
-use mir.Val.{Fits}
-use mir.Syntax.{w8}
 use lib.ListN.{length, getD, List·getD-append, List·getD-eq-default}
 use Rattle.order.specs.declared.Ordering.the-variants.{Less}
 use Rattle.order.specs.Comparison.{bytes}
@@ -15,7 +12,7 @@ use Rattle.change.specs.Change.{Change}
 use Rattle.field.specs.declared.tag.Form.{Form}
 use Rattle.field.specs.declared.tag.Form.the-variants.{Snapshot, Delta}
 use Rattle.field.specs.declared.verdict.Verdict.the-variants.{Fine}
-use Rattle.field.specs.Tag.{goodBody, kindOf}
+use Rattle.field.specs.Tag.{kindOf}
 use Rattle.field.specs.Key.{keyOf}
 use Rattle.field.specs.Head.{front, whole}
 use Rattle.field.specs.Verdict.{verdict}

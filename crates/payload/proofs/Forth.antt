@@ -1,12 +1,11 @@
 -- The field of a valid item is good, and says that item.
-use Prim.Native.Nat.{ℕ, _+_, _-_, _*_, _/_, _%_, _≤_, _<_}
+use Prim.Native.Nat.{ℕ, _-_, _≤_}
 use mathlib.Core.Path.{_≡_, refl, sym, ap, ap₂, _∙_}
-use mathlib.Core.List.{List, [], _∷_, _++_, append-nil, append-assoc}
-use mathlib.Core.Bool.{Bool, true, false, _&&_}
+use mathlib.Core.List.{[], _∷_, _++_, append-nil}
+use mathlib.Core.Bool.{true}
 use native.Mathlib.Omega.{arith}
-use lib.Dec.{leb, eqb}
-use borrow.Author.Tests.{le-leb, leb-true, eqb-true}
-use lib.ListN.{length, getD, take, drop, length-append, length-drop}
+use borrow.Author.Tests.{le-leb}
+use lib.ListN.{length, length-append}
 use lib.Seq.{drop-drop, take-append-seam, drop-append-seam}
 use Rattle.order.specs.Map.{Item}
 use Rattle.change.specs.Change.{Change, announce, withdraw, update}
@@ -14,12 +13,10 @@ use Rattle.field.specs.declared.tag.Form.{Form}
 use Rattle.field.specs.declared.tag.Form.the-variants.{Snapshot, Delta}
 use Rattle.field.specs.Tag.{tagOf, kindOf, goodBody}
 use Rattle.field.specs.Key.{keyOf}
-use Rattle.field.specs.Origin.{goodOrigin}
-use Rattle.field.specs.RouterKey.{goodRouterKey}
-use Rattle.field.specs.Aspa.{ascending, asns, goodAspa, goodUpdate, goodProviders, formerSize, formerOf, newOf}
+use Rattle.field.specs.Aspa.{goodAspa, goodUpdate, goodProviders, formerSize, formerOf, newOf}
+use Rattle.field.proofs.Sizes.{providers-size}
 use Rattle.payload.specs.Content.{Bytes, Content, countOf, entryOf, cellFor}
 use Rattle.payload.specs.Valid.{ValidValue, ValidChange, Valid, origin, routerKey, aspa, announced, withdrawn, updated}
-use Rattle.payload.proofs.Back.{both}
 
 abbrev item : {A : Type 0} → Bytes → A → Item Bytes A
 item k c = record { key = k; val = c }
@@ -38,14 +35,6 @@ is-four (a ∷ b ∷ []) h = absurd (omega arith)
 is-four (a ∷ b ∷ c ∷ []) h = absurd (omega arith)
 is-four (a ∷ b ∷ c ∷ d ∷ []) h = four a b c d
 is-four (a ∷ b ∷ c ∷ d ∷ e ∷ k) h = absurd (omega arith)
-
--- what a list of providers is
-pub providers-size : (p : Bytes) → goodProviders p ≡ true → (length p / 4 ≤ 4_096) × (length p % 4 ≡ 0)
-unfolding goodProviders
-providers-size p h =
-    let q = both (leb (length p / 4) 4_096 && eqb (length p % 4) 0) (ascending (asns p)) h in
-    let r = both (leb (length p / 4) 4_096) (eqb (length p % 4) 0) (q .0) in
-    (leb-true (length p / 4) 4_096 (r .0), eqb-true (length p % 4) 0 (r .1))
 
 -- an ASPA's body
 module _ (a b c d : ℕ) (v : Bytes) where

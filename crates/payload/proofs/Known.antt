@@ -1,6 +1,6 @@
 -- The tags under which a body can be good.
 use Prim.Native.Nat.{ℕ}
-use mathlib.Core.Path.{_≡_, refl, sym}
+use mathlib.Core.Path.{_≡_, refl}
 use mathlib.Core.List.{List}
 use mathlib.Core.Bool.{Bool, true, false, cond}
 use native.Mathlib.Omega.{arith}
@@ -8,9 +8,7 @@ use lib.Dec.{eqb}
 use borrow.Author.Tests.{eqb-true}
 use Rattle.field.specs.declared.tag.Form.{Form}
 use Rattle.field.specs.declared.tag.Form.the-variants.{Snapshot, Delta}
-use Rattle.field.specs.declared.tag.Action.the-variants.{Hold, Announce, Withdraw, Update}
 use Rattle.field.specs.declared.tag.Tag.{Tag}
-use Rattle.field.specs.declared.tag.Tag.the-variants.{Unknown, Origin, RouterKey, Aspa}
 use Rattle.field.specs.Tag.{tagOf, goodTagged, goodBody}
 
 pub data Known : Form → ℕ → Type 0 where

@@ -1,10 +1,9 @@
 -- How long the bytes of a difference are: no longer than both snapshots together.
-use Prim.Native.Nat.{ℕ, _+_, _*_, _/_, _%_, _≤_}
-use mathlib.Core.Path.{_≡_, refl, sym, ap, _∙_}
-use mathlib.Core.List.{List, [], _∷_, _++_, map}
-use mathlib.Core.Option.{Option, none, some}
+use Prim.Native.Nat.{ℕ, _+_, _≤_}
+use mathlib.Core.Path.{_≡_, refl, ap}
+use mathlib.Core.List.{[], List, _∷_}
 use native.Mathlib.Omega.{arith}
-use lib.ListN.{length, getD, drop, length-append}
+use lib.ListN.{length, drop, length-append}
 use Rattle.order.specs.declared.Ordering.{Ordering}
 use Rattle.order.specs.declared.Ordering.the-variants.{Less, Equal, Greater}
 use Rattle.order.specs.Comparison.{bytes}
@@ -12,13 +11,13 @@ use Rattle.order.specs.Map.{Item}
 use Rattle.order.specs.Walk.{emit}
 use Rattle.order.proofs.Comparison.{strings}
 use Rattle.order.proofs.Walk.{walk-nil, walk-left, walk-right, walk-less, walk-equal, walk-greater}
-use Rattle.change.specs.Change.{Change, announce, withdraw, update, unlessEqual}
+use Rattle.change.specs.Change.{announce, withdraw, update, unlessEqual}
 use Rattle.change.specs.Difference as change
 use Rattle.change.specs.Difference.{diffAt, diff}
 use Rattle.field.specs.declared.tag.Form.{Form}
 use Rattle.field.specs.declared.tag.Form.the-variants.{Snapshot, Delta}
 use Rattle.field.specs.Cells as run
-use Rattle.payload.specs.Content.{Bytes, Content, countOf, valuesFor, bodyFor, cellFor}
+use Rattle.payload.specs.Content.{Bytes, Content, valuesFor, bodyFor}
 use Rattle.payload.specs.Payload.{encode}
 
 -- the length of an item's field: a head of three bytes, the key and the values
