@@ -18,7 +18,7 @@ use Rattle.field.specs.RouterKey.{goodRouterKey}
 use Rattle.field.specs.Aspa.{goodProviders, goodAspa, goodUpdate, formerSize, formerOf, newOf}
 use Rattle.field.specs.Tag.{tagOf, goodAspaBody, goodTagged, goodBody}
 
-both : (a b : Bool) → a && b ≡ true → (a ≡ true) × (b ≡ true)
+pub both : (a b : Bool) → a && b ≡ true → (a ≡ true) × (b ≡ true)
 both a b = and-eq-true-iff a b .0
 
 module _ (b : List ℕ) where

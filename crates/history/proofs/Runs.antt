@@ -27,7 +27,7 @@ use Rattle.field.proofs.Encode.{AllBytes}
 use Rattle.payload.specs.Content.{Bytes}
 use Rattle.payload.specs.Payload.{encode, items, changes}
 use Rattle.payload.specs.Limit.{limit}
-use Rattle.payload.proofs.Back.{both}
+use Rattle.field.proofs.Sizes.{both}
 use Rattle.delta.specs.declared.refusal.Refusal.{Refusal}
 use Rattle.delta.specs.declared.refusal.Refusal.the-variants.{OtherSession, NotServed, IllFormed, BadKeep, TooLong}
 use Rattle.delta.specs.declared.admit.Admitted.{Admitted}
