@@ -6,6 +6,7 @@ pub mod Served
 pub mod Steps
 pub mod Invariant
 pub mod Queries
+pub mod Standing
 pub mod Runs
 pub mod Marked
 pub mod Examples

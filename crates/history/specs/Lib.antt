@@ -3,6 +3,7 @@ pub mod WellFormed
 pub mod Create
 pub mod Update
 pub mod Query
+pub mod Cursor
 pub mod Full
 pub mod Run
 pub mod Promise

@@ -1,6 +1,10 @@
 // The history of a server's snapshots and what it serves.
 pub mod create;
+pub mod cursor;
 pub mod full;
+pub mod gather;
+pub mod least;
+pub mod next;
 pub mod notify;
 pub mod query;
 pub mod state;
