@@ -7,6 +7,8 @@ pub mod Steps
 pub mod Invariant
 pub mod Queries
 pub mod Standing
+pub mod Lowering
+pub mod Gathering
 pub mod Runs
 pub mod Marked
 pub mod Examples
