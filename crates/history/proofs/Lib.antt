@@ -9,6 +9,7 @@ pub mod Queries
 pub mod Standing
 pub mod Lowering
 pub mod Gathering
+pub mod Stepping
 pub mod Runs
 pub mod Marked
 pub mod Examples
