@@ -9,3 +9,4 @@ pub mod Queries
 pub mod Runs
 pub mod Marked
 pub mod Examples
+pub mod Forming

@@ -5,3 +5,4 @@ pub mod notify;
 pub mod query;
 pub mod state;
 pub mod update;
+pub mod well_formed;
