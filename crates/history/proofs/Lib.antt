@@ -10,3 +10,4 @@ pub mod Runs
 pub mod Marked
 pub mod Examples
 pub mod Forming
+pub mod Replying
