@@ -13,3 +13,5 @@ pub mod Stepping
 pub mod Runs
 pub mod Marked
 pub mod Examples
+pub mod Forming
+pub mod Replying

@@ -1,5 +1,6 @@
 pub mod Store
 pub mod WellFormed
+pub mod Check
 pub mod Create
 pub mod Update
 pub mod Query

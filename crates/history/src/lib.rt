@@ -9,3 +9,4 @@ pub mod notify;
 pub mod query;
 pub mod state;
 pub mod update;
+pub mod well_formed;
