@@ -10,6 +10,8 @@ pub mod Standing
 pub mod Lowering
 pub mod Gathering
 pub mod Stepping
+pub mod Putting
+pub mod Placing
 pub mod Runs
 pub mod Marked
 pub mod Examples

@@ -5,6 +5,7 @@ pub mod Create
 pub mod Update
 pub mod Query
 pub mod Cursor
+pub mod Place
 pub mod Full
 pub mod Run
 pub mod Promise
