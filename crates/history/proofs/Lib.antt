@@ -12,6 +12,7 @@ pub mod Gathering
 pub mod Stepping
 pub mod Putting
 pub mod Placing
+pub mod Asking
 pub mod Runs
 pub mod Marked
 pub mod Examples

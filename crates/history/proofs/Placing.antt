@@ -53,6 +53,7 @@ pub record Placing (lengths : List ℕ) (n : ℕ) (at ends : List ℕ) (sum i : 
   pub long : length at ≡ 64
   pub long-ends : length ends ≡ 64
   pub sum-is : sum ≡ total (take i lengths)
+  pub low : sum ≤ 33_554_432
   pub starts : (j : ℕ) → j < i → getD at j 0 ≡ total (take j lengths)
   pub stops : (j : ℕ) → j < i → getD ends j 0 ≡ total (take j lengths) + getD lengths j 0
 
@@ -65,6 +66,7 @@ place-start lengths n at ends s l a e = record {
   long = a;
   long-ends = e;
   sum-is = refl;
+  low = omega arith;
   starts = λ j q. absurd (omega arith);
   stops = λ j q. absurd (omega arith);
 }
@@ -76,7 +78,7 @@ module _ (lengths : List ℕ) (n : ℕ) (at ends : List ℕ) (sum i : ℕ) (p : 
         let f : i + 1 ≡ suc i = omega arith in
         rw (f, e, p .sum-is) (total-next lengths i (omega (arith, p .known)))
 
-    pub place-fits : sum + k ≤ 33_554_432
+    place-fits : sum + k ≤ 33_554_432
     place-fits = omega (arith, sum-here, total-le lengths (i + 1) n (omega arith), p .summed .small)
 
     pub place-again : Placing lengths n (set at i sum) (set ends i (sum + k)) (sum + k) (i + 1)
@@ -87,6 +89,7 @@ module _ (lengths : List ℕ) (n : ℕ) (at ends : List ℕ) (sum i : ℕ) (p : 
       long = length-set at i sum ∙ p .long;
       long-ends = length-set ends i (sum + k) ∙ p .long-ends;
       sum-is = sym sum-here;
+      low = place-fits;
       starts = λ j q. start j q (ℕ-discrete j i);
       stops = λ j q. stop j q (ℕ-discrete j i);
     }
@@ -108,7 +111,7 @@ module _ (lengths : List ℕ) (n : ℕ) (at ends : List ℕ) (sum i : ℕ) (p : 
     stops = λ j q. p .stops j (omega arith);
   }
 
-pub ruleset placing = (place-start, place-fits, place-again, place-done)
+pub ruleset placing = (place-start, place-again, place-done)
 
 -- ---- the deltas of a store, one by one
 
