@@ -12,7 +12,7 @@ use Rattle.delta.specs.declared.place.Act.{Act}
 use Rattle.delta.specs.declared.sink.Counts.{Counts}
 use Rattle.delta.specs.Place.{changeIn, itemIn, ActFits, KeyIn}
 use Rattle.delta.specs.Write.{fieldAs, writes, plusItem, plusAll, zero, Room}
-use Rattle.delta.proofs.Walking.{Left-over, none-counts, none-bytes, left-one, one-small, announces-one, withdraws-one}
+use Rattle.delta.proofs.Walking.{Left-over, none-counts, none-bytes, left-one, one-small, announces-one, withdraws-one, whole-long, whole-long-bytes, whole-fits, whole-bytes}
 use Rattle.history.specs.declared.next.Step.{Step}
 use Rattle.history.specs.declared.next.Step.the-variants.{End, Item}
 use Rattle.history.specs.Cursor.{leftOf, itemsLeft, Walks, ItemFits, NextIs, Bounded}
@@ -84,3 +84,6 @@ abbrev pub measure : Bytes → List ℕ → List ℕ → ℕ → ℕ → ℕ
 measure = itemsLeft
 
 pub ruleset putting = (put-start, put-walks, put-room, put-counts, put-bytes, put-key, put-act, put-less, put-again)
+
+-- the whole of it, or nothing: as for the merge of two
+pub ruleset wholes = (whole-long, whole-long-bytes, whole-fits, whole-bytes)
