@@ -68,7 +68,7 @@ fn write_answer(answer: Answer, out: &[u8]) {
     }
 }
 
-// An entry on two inputs of these lengths, with this much room.
+// An entry on two inputs, with this much room.
 fn run(entry: Entry, a: &[u8], b: &[u8], serial: Serial, out: &mut [u8], room: usize) {
     if out.len() < room {
         write(b" not read");

@@ -1,5 +1,6 @@
 // What is written of a case: its name, then the answer.
 use crate::text::put;
+use crate::text::sum;
 use crate::text::word_end;
 use delta::refusal::Refusal;
 use delta::sink::Counts;
@@ -35,8 +36,13 @@ fn wide(x: u8) -> u64 {
     x as u64
 }
 
-// Bytes in hexadecimal; `-` if there are none.
+// Bytes in hexadecimal; `-` if there are none, and only how many and their sum if there are very many.
 fn write_bytes(s: &[u8]) {
+    if 1024 < s.len() {
+        write_number(b"length ", s.len() as u64);
+        write_number(b" sum ", sum(s) as u64);
+        return;
+    }
     if s.len() == 0 {
         write(b"-");
     }

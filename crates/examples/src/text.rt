@@ -31,14 +31,6 @@ pub fn plus(i: usize, n: usize) -> usize {
     i + n
 }
 
-// A difference of places, or 0.
-fn minus(i: usize, n: usize) -> usize {
-    if i < n {
-        return 0;
-    }
-    i - n
-}
-
 // Whether a word ends before this byte.
 fn is_gap(c: u8) -> bool {
     if c == b' ' {
@@ -134,6 +126,17 @@ pub fn number_at(text: &[u8], from: usize) -> Number {
     Number { value, next: at }
 }
 
+// The sum of all bytes.
+pub fn sum(s: &[u8]) -> usize {
+    let mut n = 0;
+    let mut i = 0;
+    while i < s.len() {
+        n = plus(n, wide(s[i]));
+        i += 1;
+    }
+    n
+}
+
 // The number of four bytes at i.
 fn four_at(s: &[u8], i: usize) -> usize {
     let high = wide(byte_at(s, i)) * 256 + wide(byte_at(s, plus(i, 1)));
@@ -151,7 +154,10 @@ fn put_four(out: &mut [u8], i: usize, n: usize) {
 
 // The last byte before len, n times in all; the new length.
 fn repeat(out: &mut [u8], len: usize, n: usize) -> usize {
-    let mut i = minus(len, 1);
+    if len < 1 {
+        return NOT_READ;
+    }
+    let mut i = len - 1;
     let x = byte_at(out, i);
     let mut k = 0;
     while k < n {
@@ -164,7 +170,10 @@ fn repeat(out: &mut [u8], len: usize, n: usize) -> usize {
 
 // The number of four bytes before len and those above it, n in all; the new length.
 fn ascend(out: &mut [u8], len: usize, n: usize) -> usize {
-    let mut i = minus(len, 4);
+    if len < 4 {
+        return NOT_READ;
+    }
+    let mut i = len - 4;
     let first = four_at(out, i);
     let mut k = 0;
     while k < n {
@@ -173,6 +182,14 @@ fn ascend(out: &mut [u8], len: usize, n: usize) -> usize {
         k += 1;
     }
     i
+}
+
+// The length, if the count that led to it is not 0.
+fn counted(n: usize, len: usize) -> usize {
+    if n == 0 {
+        return NOT_READ;
+    }
+    len
 }
 
 // Where unpacking stands: in the text, and in the bytes.
@@ -216,14 +233,14 @@ fn unpack_mark(text: &[u8], at: usize, len: usize, out: &mut [u8]) -> Cursor {
             let n = number_at(text, next);
             Cursor {
                 at: n.next,
-                len: repeat(out, len, n.value),
+                len: counted(n.value, repeat(out, len, n.value)),
             }
         }
         b'+' => {
             let n = number_at(text, next);
             Cursor {
                 at: n.next,
-                len: ascend(out, len, n.value),
+                len: counted(n.value, ascend(out, len, n.value)),
             }
         }
         _ => unpack_byte(text, at, len, out),

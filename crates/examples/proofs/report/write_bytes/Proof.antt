@@ -10,6 +10,24 @@ Inv-loop s i₀ i = Unit {0}
 abbrev μ-loop : tie.MeasureT-loop
 μ-loop s i₀ i = length s - i
 
+slice-aggregate-write-number : tie.Need-slice-aggregate-write-number Inv-loop μ-loop
+slice-aggregate-write-number c = search needs
+
+write-number-requires : tie.Need-write-number-requires Inv-loop μ-loop
+write-number-requires c κs = search needs
+
+slice-aggregate-write-number-2 : tie.Need-slice-aggregate-write-number-2 Inv-loop μ-loop
+slice-aggregate-write-number-2 c = search needs
+
+sum-requires : tie.Need-sum-requires Inv-loop μ-loop
+sum-requires c κs = search needs
+
+write-number-requires-2 : tie.Need-write-number-requires-2 Inv-loop μ-loop
+write-number-requires-2 c κs = search needs
+
+returns : tie.Need-returns Inv-loop μ-loop
+returns c = search needs
+
 slice-aggregate-write : tie.Need-slice-aggregate-write Inv-loop μ-loop
 slice-aggregate-write c = search needs
 
@@ -37,8 +55,8 @@ loop-less c = search needs
 loop-again : tie.Need-loop-again Inv-loop μ-loop
 loop-again c = search needs
 
-returns : tie.Need-returns Inv-loop μ-loop
-returns c = search needs
+returns-2 : tie.Need-returns-2 Inv-loop μ-loop
+returns-2 c = search needs
 
 pub write-bytes-spec : {M : Type 1} → statement M
 write-bytes-spec =
@@ -46,6 +64,12 @@ write-bytes-spec =
     (tie.spec
     Inv-loop
     μ-loop
+    slice-aggregate-write-number
+    write-number-requires
+    slice-aggregate-write-number-2
+    sum-requires
+    write-number-requires-2
+    returns
     slice-aggregate-write
     write-requires
     loop-holds
@@ -55,4 +79,4 @@ write-bytes-spec =
     add-i
     loop-less
     loop-again
-    returns)
+    returns-2)

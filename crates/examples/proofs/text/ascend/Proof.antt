@@ -11,8 +11,8 @@ Inv-loop out₀ len n i₀ first k₀ out i k = length out ≡ length out₀
 abbrev μ-loop : tie.MeasureT-loop
 μ-loop out₀ len n i₀ first k₀ out i k = n - k
 
-minus-requires : tie.Need-minus-requires Inv-loop μ-loop
-minus-requires c κs = search needs
+returns : tie.Need-returns Inv-loop μ-loop
+returns c = search needs
 
 four-at-requires : tie.Need-four-at-requires Inv-loop μ-loop
 four-at-requires c κs = search needs
@@ -41,8 +41,8 @@ loop-again c = search needs
 same-length : tie.Need-same-length Inv-loop μ-loop
 same-length c = search needs
 
-returns : tie.Need-returns Inv-loop μ-loop
-returns c = search needs
+returns-2 : tie.Need-returns-2 Inv-loop μ-loop
+returns-2 c = search needs
 
 pub ascend-spec : {M : Type 1} → statement M
 ascend-spec =
@@ -50,7 +50,7 @@ ascend-spec =
     (tie.spec
     Inv-loop
     μ-loop
-    minus-requires
+    returns
     four-at-requires
     loop-holds
     plus-requires
@@ -60,4 +60,4 @@ ascend-spec =
     loop-less
     loop-again
     same-length
-    returns)
+    returns-2)

@@ -11,8 +11,8 @@ Inv-loop out₀ len n i₀ x k₀ out i k = length out ≡ length out₀
 abbrev μ-loop : tie.MeasureT-loop
 μ-loop out₀ len n i₀ x k₀ out i k = n - k
 
-minus-requires : tie.Need-minus-requires Inv-loop μ-loop
-minus-requires c κs = search needs
+returns : tie.Need-returns Inv-loop μ-loop
+returns c = search needs
 
 byte-at-requires : tie.Need-byte-at-requires Inv-loop μ-loop
 byte-at-requires c κs = search needs
@@ -38,8 +38,8 @@ loop-again c = search needs
 same-length : tie.Need-same-length Inv-loop μ-loop
 same-length c = search needs
 
-returns : tie.Need-returns Inv-loop μ-loop
-returns c = search needs
+returns-2 : tie.Need-returns-2 Inv-loop μ-loop
+returns-2 c = search needs
 
 pub repeat-spec : {M : Type 1} → statement M
 repeat-spec =
@@ -47,7 +47,7 @@ repeat-spec =
     (tie.spec
     Inv-loop
     μ-loop
-    minus-requires
+    returns
     byte-at-requires
     loop-holds
     put-requires
@@ -56,4 +56,4 @@ repeat-spec =
     loop-less
     loop-again
     same-length
-    returns)
+    returns-2)
