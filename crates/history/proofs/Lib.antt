@@ -11,3 +11,5 @@ pub mod Marked
 pub mod Examples
 pub mod Forming
 pub mod Replying
+pub mod Pushing
+pub mod Laying

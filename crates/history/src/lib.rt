@@ -2,7 +2,9 @@
 pub mod create;
 pub mod full;
 pub mod notify;
+pub mod push;
 pub mod query;
 pub mod state;
+pub mod stores;
 pub mod update;
 pub mod well_formed;
