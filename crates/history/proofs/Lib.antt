@@ -13,3 +13,5 @@ pub mod Forming
 pub mod Replying
 pub mod Pushing
 pub mod Laying
+pub mod Adding
+pub mod Updating

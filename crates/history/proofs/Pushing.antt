@@ -15,7 +15,7 @@ use Rattle.serial.specs.Serial.{nextOf}
 use Rattle.history.specs.declared.state.History.{History}
 use Rattle.history.specs.declared.push.Kept.{Kept}
 use Rattle.history.specs.Store.{total}
-use Rattle.history.specs.Push.{between, dropsOf, keptOf, lengthsWith, grownOf, Ranged}
+use Rattle.history.specs.Push.{between, dropsOf, keptOf, lengthsWith, grownOf, Ranged, Grows}
 
 -- ---- how many are dropped
 
@@ -137,6 +137,9 @@ module _ (lens : List ℕ) (first n count : ℕ) (next : List ℕ) (i : ℕ) (c 
   pub shifts-put : count < length next
   shifts-put = omega (arith, c .small, c .long)
 
+  pub shifts-full : length lens ≡ 64
+  shifts-full = c .full
+
   pub shifts-end : (len : ℕ) → count ≤ i → set next count len ≡ lengthsWith lens first n len
   unfolding lengthsWith
   shifts-end len h =
@@ -179,14 +182,20 @@ module _ (lens : List ℕ) (first n count : ℕ) (next : List ℕ) (i : ℕ) (c 
           left = rw f (rw f at (rw z at (c .left)));
         }
 
-pub ruleset shifting = (shifts-start, shifts-put, shifts-end, shifts-from, shifts-to, shifts-again)
+pub ruleset shifting = (shifts-start, shifts-put, shifts-full, shifts-end, shifts-from, shifts-to, shifts-again)
 
 -- ---- the state
 
-pub grown-is : (h : History) (first snapshot delta len n m k : ℕ) (lens : List ℕ) (s : Serial) → n ≡ h .n → len ≡ delta → k ≡ snapshot →
+grown-path : (h : History) (first snapshot delta len n m k : ℕ) (lens : List ℕ) (s : Serial) → n ≡ h .n → len ≡ delta → k ≡ snapshot →
     lens ≡ lengthsWith (h .deltas) first n len → s ≡ nextOf (h .newest) → m ≡ n - first + 1 →
     record { session = h .session; keep = h .keep; active = true; newest = s; n = m; snapshot = k; deltas = lens } ≡ grownOf h first snapshot delta
 unfolding grownOf
-grown-is h first snapshot delta len n m k lens s a b d e f g = rw (g, e, f, b, d, a)
+grown-path h first snapshot delta len n m k lens s a b d e f g = rw (g, e, f, b, d, a)
+
+pub grown-is : (h : History) (first snapshot delta len n m k : ℕ) (lens : List ℕ) (s : Serial) → n ≡ h .n → len ≡ delta → k ≡ snapshot →
+    lens ≡ lengthsWith (h .deltas) first n len → s ≡ nextOf (h .newest) → m ≡ n - first + 1 → length (h .deltas) ≡ 64 →
+    Grows h first snapshot delta (record { session = h .session; keep = h .keep; active = true; newest = s; n = m; snapshot = k; deltas = lens })
+grown-is h first snapshot delta len n m k lens s a b d e f g l =
+    record { is = grown-path h first snapshot delta len n m k lens s a b d e f g; full = l }
 
 pub ruleset growing = (first-within, first-left, first-count, count-few, grown-is)

@@ -20,7 +20,7 @@ use Rattle.history.specs.declared.push.Kept.{Kept}
 use Rattle.history.specs.declared.update.Updated.{Updated}
 use Rattle.history.specs.Store.{total, heldSnapshot}
 use Rattle.history.specs.WellFormed.{wellFormed}
-use Rattle.history.specs.Update.{firstStep, updateAt, snapshotsAt}
+use Rattle.history.specs.Update.{firstStep, updateAt, updateOf, snapshotsAt, updateSnapshots, updateDeltas}
 
 -- the lengths from `from` up to `to`
 abbrev pub between : List ℕ → ℕ → ℕ → List ℕ
@@ -54,6 +54,11 @@ grownOf h first snapshot delta = record {
   deltas = lengthsWith (h .deltas) first (h .n) delta;
 }
 
+-- r is that state; its lengths came of 64
+pub record Grows (h : History) (first snapshot delta : ℕ) (r : History) : Type 0 where
+  pub is : r ≡ grownOf h first snapshot delta
+  pub full : length (h .deltas) ≡ 64
+
 -- the delta store once d lies behind the `kept` bytes that stood at `from`
 unfoldable pub laid : ℕ → ℕ → Bytes → Bytes → Bytes
 laid from kept d store = take kept (drop from store) ++ (d ++ drop (kept + length d) store)
@@ -70,11 +75,24 @@ pub record Pushes (old new : Bytes) (from kept : ℕ) (store : Bytes) : Type 0 w
   pub within : from + kept ≤ length store
   pub room : kept + length (differenceOf old new) ≤ length store
 
+-- a good held snapshot and a good new one
+pub record Compares (h : History) (new snapshots : Bytes) : Type 0 where
+  pub within : h .snapshot ≤ length snapshots
+  pub inputs : Inputs Snapshot (heldSnapshot h snapshots) Snapshot new
+
 -- 7, then 10, 1 and 2 of the new snapshot
 unfoldable pub updateAdmitted : History → Bytes → Bytes → Bytes → Admitted
 updateAdmitted h new snapshots deltas = cond (wellFormed h snapshots deltas) (admitOneOf Snapshot new) (No IllFormed)
 
--- an active history gets a snapshot that is admitted
+pub record Judged (h : History) (new snapshots deltas : Bytes) (r : Admitted) : Type 0 where
+  pub is : r ≡ updateAdmitted h new snapshots deltas
+
+-- a well-formed history gets a snapshot that is admitted
+pub record Accepts (h : History) (new snapshots deltas : Bytes) : Type 0 where
+  pub formed : wellFormed h snapshots deltas ≡ true
+  pub admitted : admitOneOf Snapshot new ≡ Yes
+
+-- the history is active
 pub record Renews (h : History) (new snapshots deltas : Bytes) : Type 0 where
   pub formed : wellFormed h snapshots deltas ≡ true
   pub admitted : admitOneOf Snapshot new ≡ Yes
@@ -95,3 +113,14 @@ firstOf h new snapshots = updateAt (firstStep new snapshots) h new []
 
 unfoldable pub firstStore : Bytes → Bytes → Bytes
 firstStore new snapshots = snapshotsAt (firstStep new snapshots) new snapshots
+
+-- an update's answer r, and both stores afterwards
+pub record Does (h : History) (new s d : Bytes) (r : Updated) (s′ d′ : Bytes) : Type 0 where
+  pub answer : r ≡ updateOf h new s d
+  pub snapshots : s′ ≡ updateSnapshots h new s d
+  pub deltas : d′ ≡ updateDeltas h new s d
+
+-- both stores after a change
+pub record Stores (h : History) (new s d s′ d′ : Bytes) : Type 0 where
+  pub snapshots : s′ ≡ updateSnapshots h new s d
+  pub deltas : d′ ≡ updateDeltas h new s d

@@ -4,8 +4,9 @@ use crate::well_formed::wide;
 use serial::next;
 ghost use mathlib.Core.Path.{_≡_};
 ghost use Prim.Native.Nat.{_-_, _^_, _<_, _≤_};
+ghost use lib.ListN.{length};
 ghost use Rattle.history.specs.Store.{total};
-ghost use Rattle.history.specs.Push.{between, dropsOf, keptOf, lengthsWith, grownOf, Ranged};
+ghost use Rattle.history.specs.Push.{between, dropsOf, keptOf, lengthsWith, Ranged, Grows};
 
 // The deltas that stay once one is added.
 pub struct Kept {
@@ -64,7 +65,7 @@ pub fn kept_of(history: History) -> Kept
 // The lengths from `first` up to n at the start, then one more.
 fn push_length(lens: [u32; 64], first: usize, n: usize, len: u32) -> [u32; 64]
     requires { ⌜ (first ≤ n) × ((n ≤ 64) × (n - first < 64)) ⌝ }
-    ensures { λ r. ⌜ r ≡ lengthsWith lens first n len ⌝ }
+    ensures { λ r. ⌜ (r ≡ lengthsWith lens first n len) × (length lens ≡ 64) ⌝ }
 {
     let count = n - first;
     let mut next = [0u32; 64];
@@ -80,7 +81,7 @@ fn push_length(lens: [u32; 64], first: usize, n: usize, len: u32) -> [u32; 64]
 // The state once a snapshot and a delta of these lengths are held.
 pub fn grown(history: History, first: usize, snapshot: usize, delta: usize) -> History
     requires { ⌜ Ranged history × ((first ≡ dropsOf history) × ((snapshot < 2 ^ 32) × (delta < 2 ^ 32))) ⌝ }
-    ensures { λ r. ⌜ r ≡ grownOf history first snapshot delta ⌝ }
+    ensures { λ r. ⌜ Grows history first snapshot delta r ⌝ }
 {
     let lens = history.deltas;
     let n = wide(history.n);
