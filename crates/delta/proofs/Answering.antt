@@ -96,7 +96,7 @@ limit-high Delta = omega arith
 pub ready-start : (reading : Reading) (s : Bytes) → verdict (formOf reading) s ≡ verdict.Fine → Ready reading s 0
 ready-start reading s e = record { good = good-start (formOf reading) s e; within = omega arith }
 
-runs-of : (ra : Reading) (a : Bytes) (rb : Reading) (b : Bytes) → Inputs (formOf ra) a (formOf rb) b → Runs ra a rb b
+pub runs-of : (ra : Reading) (a : Bytes) (rb : Reading) (b : Bytes) → Inputs (formOf ra) a (formOf rb) b → Runs ra a rb b
 runs-of ra a rb b i = record {
   good-a = ready-start ra a (i .fine-a);
   good-b = ready-start rb b (i .fine-b);
@@ -114,7 +114,7 @@ counts-are d =
     (zero-add (sumOf withdraws d) ∙ sym (withdrawn-encode d))
 
 module _ (old new : Bytes) (i : Inputs Snapshot old Snapshot new) where
-  difference-is : encode Delta (mergedAs Withdrawn old Announced new) ≡ differenceOf old new
+  pub difference-is : encode Delta (mergedAs Withdrawn old Announced new) ≡ differenceOf old new
   unfolding differenceOf
   difference-is =
       let a = faithful Snapshot .map-of old (i .fine-a) in

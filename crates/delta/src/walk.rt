@@ -145,7 +145,7 @@ pub fn put_merge(form: Form, ra: Reading, a: &[u8], rb: Reading, b: &[u8], out: 
 }
 
 // The counts of the merge of two runs.
-fn measure(form: Form, ra: Reading, a: &[u8], rb: Reading, b: &[u8]) -> Counts
+pub fn measure(form: Form, ra: Reading, a: &[u8], rb: Reading, b: &[u8]) -> Counts
     requires { ⌜ Runs ra (now a) rb (now b) ⌝ }
     ensures { λ r. ⌜ r ≡ plusAll form zero (mergedAs ra (now (a .entry)) rb (now (b .entry))) ⌝ }
 {

@@ -203,7 +203,7 @@ parts true true true true false true g = refl
 parts true true true true false false g = refl
 parts true true true true true f g = refl
 
-formed-parts : (h : History) (s d : Bytes) → wellFormed h s d ≡ (goodState h && goodSnapshot (h .snapshot) s && goodDeltas (heldLengths h) d)
+pub formed-parts : (h : History) (s d : Bytes) → wellFormed h s d ≡ (goodState h && goodSnapshot (h .snapshot) s && goodDeltas (heldLengths h) d)
 unfolding wellFormed goodState goodSnapshot goodDeltas goodRuns
 formed-parts h s d =
     parts (inRange h && goodSerial h && goodStart h) (leb (length s) (limit Snapshot)) (leb (length d) (limit Delta))

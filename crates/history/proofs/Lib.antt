@@ -16,3 +16,7 @@ pub mod Marked
 pub mod Examples
 pub mod Forming
 pub mod Replying
+pub mod Pushing
+pub mod Laying
+pub mod Adding
+pub mod Updating

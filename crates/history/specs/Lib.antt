@@ -3,6 +3,7 @@ pub mod WellFormed
 pub mod Check
 pub mod Create
 pub mod Update
+pub mod Push
 pub mod Query
 pub mod Cursor
 pub mod Place
