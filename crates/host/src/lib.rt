@@ -1,0 +1,4 @@
+// The C interface: numbers, byte slices and structs by value.
+pub mod answer;
+pub mod calls;
+pub mod state;
