@@ -107,7 +107,7 @@ runs-of ra a rb b i = record {
 -- ---- the bytes of the merge are those of the answer
 
 -- a delta's changes are written as its encoding
-counts-are : (d : change.Delta Bytes Bytes) → plusAll Delta zero d ≡ countsOf (encode Delta d)
+pub counts-are : (d : change.Delta Bytes Bytes) → plusAll Delta zero d ≡ countsOf (encode Delta d)
 unfolding encode
 counts-are d =
     counts-path (zero-add (length (encode Delta d))) (zero-add (sumOf announces d) ∙ sym (announced-encode d))
@@ -178,15 +178,15 @@ module _ (form : Form) (d : change.Delta Bytes Bytes) (n : ℕ) where
 
 -- the same of a delta's bytes
 module _ (d : change.Delta Bytes Bytes) (b : Bytes) (e : encode Delta d ≡ b) (n : ℕ) where
-  delta-room : NoRoom ≡ outputOf Delta d n → n < length b
+  pub delta-room : NoRoom ≡ outputOf Delta d n → n < length b
   unfolding encode
   delta-room h = rw (← e) (no-room Delta d n h)
 
-  delta-written : (c : Counts) → Written c ≡ outputOf Delta d n → (length b ≤ n) × (c ≡ countsOf b)
+  pub delta-written : (c : Counts) → Written c ≡ outputOf Delta d n → (length b ≤ n) × (c ≡ countsOf b)
   unfolding encode
   delta-written c h = rw (← e) (written Delta d n c h .0, written Delta d n c h .1 ∙ counts-are d)
 
-delta-out : (d : change.Delta Bytes Bytes) (b : Bytes) → encode Delta d ≡ b → (o : Bytes) → wholeOut Delta d o ≡ outAfter Yes b o
+pub delta-out : (d : change.Delta Bytes Bytes) (b : Bytes) → encode Delta d ≡ b → (o : Bytes) → wholeOut Delta d o ≡ outAfter Yes b o
 unfolding encode
 delta-out d b e o = ap (λ (s : Bytes). outAfter Yes s o) e
 

@@ -21,7 +21,7 @@ use Rattle.delta.specs.declared.reading.Reading.the-variants.{Withdrawn,
 use Rattle.delta.specs.Place.{partIn, changeIn, PartFits, ActFits}
 use Rattle.delta.specs.Reading.{itemAs, formOf, middle, actPlace, SplitFits, Splits}
 
-drop-take : (i m : ℕ) (l : Bytes) → drop i (take m l) ≡ take (m - i) (drop i l)
+pub drop-take : (i m : ℕ) (l : Bytes) → drop i (take m l) ≡ take (m - i) (drop i l)
 drop-take zero m l = let e : m - 0 ≡ m = omega arith in rw e
 drop-take (suc i) zero l = let e : 0 - suc i ≡ 0 = omega arith in rw e
 drop-take (suc i) (suc m) [] = sym (take-nil (suc m - suc i))

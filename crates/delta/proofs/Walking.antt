@@ -125,10 +125,10 @@ pub record Left-over (form : Form) (c : Counts) (o : Bytes) (d : D) (c₀ : Coun
 
 module _ (form : Form) (c : Counts) (o : Bytes) (d : D) (c₀ : Counts) (o₀ : Bytes) (d₀ : D) (l : Left-over form c o d c₀ o₀ d₀) where
   -- at its end
-  none-counts : d ≡ [] → c ≡ plusAll form c₀ d₀
+  pub none-counts : d ≡ [] → c ≡ plusAll form c₀ d₀
   none-counts e = plus-nil form c ∙ ap (plusAll form c) (sym e) ∙ l .counts
 
-  none-bytes : d ≡ [] → o ≡ sets o₀ (c₀ .len) (writes form d₀)
+  pub none-bytes : d ≡ [] → o ≡ sets o₀ (c₀ .len) (writes form d₀)
   none-bytes e = writes-nil form o (c .len) ∙ ap (λ (x : D). sets o (c .len) (writes form x)) (sym e) ∙ l .laid
 
   -- behind some items that were written
@@ -140,7 +140,7 @@ module _ (form : Form) (c : Counts) (o : Bytes) (d : D) (c₀ : Counts) (o₀ : 
   }
 
   -- behind one
-  left-one : (x : Item Bytes (Change Bytes)) (f : D) → d ≡ x ∷ f → (r : Counts) (p : Bytes) → r ≡ plusItem form c x →
+  pub left-one : (x : Item Bytes (Change Bytes)) (f : D) → d ≡ x ∷ f → (r : Counts) (p : Bytes) → r ≡ plusItem form c x →
       p ≡ sets o (c .len) (fieldAs form x) → Left-over form r p f c₀ o₀ d₀
   left-one x f q r p er ep =
       left-some (x ∷ []) f q r p (er ∙ plus-one form c x) (ep ∙ ap (sets o (c .len)) (writes-one form c x))
@@ -149,15 +149,15 @@ module _ (form : Form) (c : Counts) (o : Bytes) (d : D) (c₀ : Counts) (o₀ : 
 
 -- one item counts for at most so much
 module _ (form : Form) (a b : Bytes) (key : Key) (act : Act) (k : KeyIn a key) (f : ActFits a b act) where
-  one-small : length (fieldAs form (itemIn a b key act)) ≤ 40_000
+  pub one-small : length (fieldAs form (itemIn a b key act)) ≤ 40_000
   one-small = omega (arith, field-small a b key act k f form)
 
-announces-one : (c : Change Bytes) → announces c ≤ 1
+pub announces-one : (c : Change Bytes) → announces c ≤ 1
 announces-one (announce n) = omega arith
 announces-one (withdraw p) = omega arith
 announces-one (update p n) = omega arith
 
-withdraws-one : (c : Change Bytes) → withdraws c ≤ 1
+pub withdraws-one : (c : Change Bytes) → withdraws c ≤ 1
 withdraws-one (announce n) = omega arith
 withdraws-one (withdraw p) = omega arith
 withdraws-one (update p n) = omega arith

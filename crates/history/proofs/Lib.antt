@@ -4,6 +4,15 @@ pub mod Served
 pub mod Steps
 pub mod Invariant
 pub mod Queries
+pub mod Standing
+pub mod Lowering
+pub mod Gathering
+pub mod Stepping
+pub mod Putting
+pub mod Placing
+pub mod Asking
 pub mod Runs
 pub mod Marked
 pub mod Examples
+pub mod Forming
+pub mod Replying

@@ -1,8 +1,11 @@
 pub mod Store
 pub mod WellFormed
+pub mod Check
 pub mod Create
 pub mod Update
 pub mod Query
+pub mod Cursor
+pub mod Place
 pub mod Full
 pub mod Run
 pub mod Promise

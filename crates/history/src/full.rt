@@ -1,7 +1,13 @@
 // The full answer.
+use crate::state::History;
+use crate::well_formed::well_formed;
+use crate::well_formed::wide;
 use delta::refusal::Refusal;
 use serial::Serial;
 use serial::Session;
+use serial::session16;
+ghost use mathlib.Core.Path.{_≡_};
+ghost use Rattle.history.specs.Full.{fullOf};
 
 pub enum FullAnswer {
     Refused(Refusal),
@@ -13,4 +19,23 @@ pub struct Full {
     pub session: Session,
     pub serial: Serial,
     pub answer: FullAnswer,
+}
+
+// The 16-bit session, F and the held snapshot; refusal 7 alone.
+pub fn full_answer(history: History, snapshots: &[u8], deltas: &[u8]) -> Full
+    ensures { λ r. ⌜ r ≡ fullOf history (now (snapshots .entry)) (now (deltas .entry)) ⌝ }
+{
+    if !well_formed(history, snapshots, deltas) {
+        return Full {
+            session: Session(0),
+            serial: Serial(0),
+            answer: FullAnswer::Refused(Refusal::IllFormed),
+        };
+    }
+    let serial = history.newest;
+    Full {
+        session: session16(history.session),
+        serial,
+        answer: FullAnswer::Held(wide(history.snapshot)),
+    }
 }

@@ -1,7 +1,14 @@
 // The history of a server's snapshots and what it serves.
 pub mod create;
+pub mod cursor;
 pub mod full;
+pub mod gather;
+pub mod least;
+pub mod merged;
+pub mod next;
 pub mod notify;
+pub mod place;
 pub mod query;
 pub mod state;
 pub mod update;
+pub mod well_formed;

@@ -1,8 +1,24 @@
 // The query of a serial.
+use crate::merged::merged_last;
+use crate::state::History;
+use crate::well_formed::well_formed;
+use crate::well_formed::wide;
+use delta::admit::Admitted;
 use delta::refusal::Refusal;
 use delta::sink::Counts;
+use delta::walk::Output;
 use serial::Serial;
 use serial::Session;
+use serial::distance;
+use serial::session16;
+ghost use mathlib.Core.Path.{_≡_};
+ghost use Prim.Native.Nat.{_≤_};
+ghost use lib.ListN.{length};
+ghost use Rattle.delta.specs.declared.admit.Admitted.the-variants.{Yes};
+ghost use Rattle.delta.specs.Answer.{outAfter};
+ghost use Rattle.history.specs.Store.{heldDeltas};
+ghost use Rattle.history.specs.Place.{Stored};
+ghost use Rattle.history.specs.Query.{isServed, isSession, queryAdmitted, mergedLast, refusedWith, queryAt, queryOf, queryOut};
 
 pub enum Answer {
     Refused(Refusal),
@@ -14,4 +30,96 @@ pub struct Queried {
     pub session: Session,
     pub serial: Serial,
     pub answer: Answer,
+}
+
+// A refused query: other numbers 0.
+fn refused(refusal: Refusal) -> Queried
+    ensures { λ r. ⌜ r ≡ refusedWith refusal ⌝ }
+{
+    Queried {
+        session: Session(0),
+        serial: Serial(0),
+        answer: Answer::Refused(refusal),
+    }
+}
+
+// Whether the session is the history's modulo 65,536.
+fn is_session(history: History, session: Session) -> bool
+    ensures { λ r. ⌜ r ≡ isSession history session ⌝ }
+{
+    let own = session16(history.session);
+    session.0 == own.0
+}
+
+// Whether, with n deltas, a serial is served that is d steps before the newest.
+fn is_served(n: u32, asked: Serial, d: u32) -> bool
+    ensures { λ r. ⌜ r ≡ isServed n asked d ⌝ }
+{
+    if n == 0 {
+        return asked.0 == 0;
+    }
+    if d < 2 {
+        return true;
+    }
+    d < n
+}
+
+// Refusals 7, 5 and 6.
+fn admit_query(
+    history: History,
+    session: Session,
+    asked: Serial,
+    snapshots: &[u8],
+    deltas: &[u8],
+) -> Admitted
+    ensures { λ r. ⌜ r ≡ queryAdmitted history session asked (now (snapshots .entry)) (now (deltas .entry)) ⌝ }
+{
+    if !well_formed(history, snapshots, deltas) {
+        return Admitted::No(Refusal::IllFormed);
+    }
+    if !is_session(history, session) {
+        return Admitted::No(Refusal::OtherSession);
+    }
+    let newest = history.newest;
+    if !is_served(history.n, asked, distance(newest, asked)) {
+        return Admitted::No(Refusal::NotServed);
+    }
+    Admitted::Yes
+}
+
+// The last d deltas of a history, merged.
+fn serve(history: History, d: u32, deltas: &[u8], out: &mut [u8]) -> Queried
+    requires { ⌜ Stored (now deltas) (history .deltas) (history .n) × (d ≤ history .n) ⌝ }
+    ensures { λ r. ⌜ (r ≡ queryAt Yes history (mergedLast d (heldDeltas history (now (deltas .entry)))) (length (now (out .entry)))) × (now (out .exit) ≡ outAfter Yes (mergedLast d (heldDeltas history (now (deltas .entry)))) (now (out .entry))) ⌝ }
+{
+    let lengths = history.deltas;
+    let n = wide(history.n);
+    if let Output::Written(counts) = merged_last(deltas, lengths, n, wide(d), out) {
+        let session = session16(history.session);
+        let serial = history.newest;
+        return Queried {
+            session,
+            serial,
+            answer: Answer::Served(counts),
+        };
+    }
+    refused(Refusal::NoRoom)
+}
+
+// What leads from the serial asked for to the newest: the deltas since, merged.
+pub fn query(
+    history: History,
+    session: Session,
+    asked: Serial,
+    snapshots: &[u8],
+    deltas: &[u8],
+    out: &mut [u8],
+) -> Queried
+    ensures { λ r. ⌜ (r ≡ queryOf history session asked (now (snapshots .entry)) (now (deltas .entry)) (length (now (out .entry)))) × (now (out .exit) ≡ queryOut history session asked (now (snapshots .entry)) (now (deltas .entry)) (now (out .entry))) ⌝ }
+{
+    if let Admitted::No(refusal) = admit_query(history, session, asked, snapshots, deltas) {
+        return refused(refusal);
+    }
+    let newest = history.newest;
+    serve(history, distance(newest, asked), deltas, out)
 }

@@ -1,0 +1,266 @@
+// The text of the cases: lines of words, parted by single spaces; numbers in decimal; bytes in hexadecimal.
+ghost use mathlib.Core.Path.{_≡_};
+ghost use Prim.Native.Nat.{_<_};
+
+// A length that no buffer here has: what was unpacked is not well formed.
+const NOT_READ: usize = 1000000;
+
+// A byte, or 0 past the end.
+pub fn byte_at(s: &[u8], i: usize) -> u8 {
+    if i < s.len() {
+        return s[i];
+    }
+    0
+}
+
+// A byte at i, if there is room.
+pub fn put(out: &mut [u8], i: usize, x: u8) {
+    if i < out.len() {
+        out[i] = x;
+    }
+}
+
+// A sum of places; i where they are larger than any here.
+pub fn plus(i: usize, n: usize) -> usize {
+    if 4294967296 < i {
+        return i;
+    }
+    if 4294967296 < n {
+        return i;
+    }
+    i + n
+}
+
+// Whether a word ends before this byte.
+fn is_gap(c: u8) -> bool {
+    if c == b' ' {
+        return true;
+    }
+    c == b'\n'
+}
+
+// Where the word that starts at from ends.
+pub fn word_end(text: &[u8], from: usize) -> usize {
+    let mut at = from;
+    while at < text.len() {
+        if is_gap(text[at]) {
+            return at;
+        }
+        at += 1;
+    }
+    at
+}
+
+// Where the word behind the one at from starts; in the last word of a line, where that ends.
+pub fn word_after(text: &[u8], from: usize) -> usize {
+    let end = word_end(text, from);
+    if byte_at(text, end) == b' ' {
+        return plus(end, 1);
+    }
+    end
+}
+
+// Where the line behind the one of from starts.
+pub fn line_after(text: &[u8], from: usize) -> usize {
+    let mut at = from;
+    while at < text.len() {
+        if text[at] == b'\n' {
+            return at + 1;
+        }
+        at += 1;
+    }
+    at
+}
+
+// A number, and where it ends.
+pub struct Number {
+    pub value: usize,
+    pub next: usize,
+}
+
+// The number with one decimal digit more; unchanged if it is larger than any here.
+fn with_digit(n: usize, digit: u8) -> usize {
+    if 4294967296 < n {
+        return n;
+    }
+    plus(n * 10, wide(digit))
+}
+
+fn wide(x: u8) -> usize
+    ensures { λ r. ⌜ (r ≡ x) × (r < 256) ⌝ }
+{
+    x as usize
+}
+
+// A digit's value, or 16.
+fn digit(c: u8) -> u8 {
+    if c < b'0' {
+        return 16;
+    }
+    if c <= b'9' {
+        return c - b'0';
+    }
+    if c < b'a' {
+        return 16;
+    }
+    if c <= b'f' {
+        return c - b'a' + 10;
+    }
+    16
+}
+
+// The decimal number at from, of at most ten digits; 0 if there is none.
+pub fn number_at(text: &[u8], from: usize) -> Number {
+    let mut at = from;
+    let mut value = 0;
+    let mut turns: usize = 10;
+    while 0 < turns {
+        turns -= 1;
+        let x = digit(byte_at(text, at));
+        if 9 < x {
+            return Number { value, next: at };
+        }
+        value = with_digit(value, x);
+        at = plus(at, 1);
+    }
+    Number { value, next: at }
+}
+
+// The sum of all bytes.
+pub fn sum(s: &[u8]) -> usize {
+    let mut n = 0;
+    let mut i = 0;
+    while i < s.len() {
+        n = plus(n, wide(s[i]));
+        i += 1;
+    }
+    n
+}
+
+// The number of four bytes at i.
+fn four_at(s: &[u8], i: usize) -> usize {
+    let high = wide(byte_at(s, i)) * 256 + wide(byte_at(s, plus(i, 1)));
+    let low = wide(byte_at(s, plus(i, 2))) * 256 + wide(byte_at(s, plus(i, 3)));
+    high * 65536 + low
+}
+
+// A number as four bytes at i.
+fn put_four(out: &mut [u8], i: usize, n: usize) {
+    put(out, i, (n / 16777216 % 256) as u8);
+    put(out, plus(i, 1), (n / 65536 % 256) as u8);
+    put(out, plus(i, 2), (n / 256 % 256) as u8);
+    put(out, plus(i, 3), (n % 256) as u8);
+}
+
+// The last byte before len, n times in all; the new length.
+fn repeat(out: &mut [u8], len: usize, n: usize) -> usize {
+    if len < 1 {
+        return NOT_READ;
+    }
+    let mut i = len - 1;
+    let x = byte_at(out, i);
+    let mut k = 0;
+    while k < n {
+        put(out, i, x);
+        i = plus(i, 1);
+        k += 1;
+    }
+    i
+}
+
+// The number of four bytes before len and those above it, n in all; the new length.
+fn ascend(out: &mut [u8], len: usize, n: usize) -> usize {
+    if len < 4 {
+        return NOT_READ;
+    }
+    let mut i = len - 4;
+    let first = four_at(out, i);
+    let mut k = 0;
+    while k < n {
+        put_four(out, i, plus(first, k));
+        i = plus(i, 4);
+        k += 1;
+    }
+    i
+}
+
+// The length, if the count that led to it is not 0.
+fn counted(n: usize, len: usize) -> usize {
+    if n == 0 {
+        return NOT_READ;
+    }
+    len
+}
+
+// Where unpacking stands: in the text, and in the bytes.
+pub struct Cursor {
+    pub at: usize,
+    pub len: usize,
+}
+
+// A byte of two hexadecimal digits.
+fn unpack_byte(text: &[u8], at: usize, len: usize, out: &mut [u8]) -> Cursor {
+    let next = plus(at, 1);
+    let high = digit(byte_at(text, at));
+    let low = digit(byte_at(text, next));
+    if 15 < high {
+        return Cursor {
+            at: next,
+            len: NOT_READ,
+        };
+    }
+    if 15 < low {
+        return Cursor {
+            at: next,
+            len: NOT_READ,
+        };
+    }
+    put(out, len, high * 16 + low);
+    Cursor {
+        at: plus(next, 1),
+        len: plus(len, 1),
+    }
+}
+
+// One mark of a word of bytes: two digits are a byte; `.` and `-` are nothing; `*N` has the byte before it stand N
+// times, `+N` the number of four bytes before it and those above it, N in all.
+fn unpack_mark(text: &[u8], at: usize, len: usize, out: &mut [u8]) -> Cursor {
+    let next = plus(at, 1);
+    match byte_at(text, at) {
+        b'.' => Cursor { at: next, len },
+        b'-' => Cursor { at: next, len },
+        b'*' => {
+            let n = number_at(text, next);
+            Cursor {
+                at: n.next,
+                len: counted(n.value, repeat(out, len, n.value)),
+            }
+        }
+        b'+' => {
+            let n = number_at(text, next);
+            Cursor {
+                at: n.next,
+                len: counted(n.value, ascend(out, len, n.value)),
+            }
+        }
+        _ => unpack_byte(text, at, len, out),
+    }
+}
+
+// The bytes of the word at from, put into out; how many there are, or more than fit if it cannot be read.
+pub fn unpack(text: &[u8], from: usize, out: &mut [u8]) -> usize {
+    let end = word_end(text, from);
+    if end == from {
+        return NOT_READ;
+    }
+    let mut c = Cursor { at: from, len: 0 };
+    let mut turns: usize = 65536;
+    while 0 < turns {
+        turns -= 1;
+        if end <= c.at {
+            return c.len;
+        }
+        c = unpack_mark(text, c.at, c.len, out);
+    }
+    NOT_READ
+}

@@ -1,0 +1,216 @@
+-- Laws of the query.
+use Prim.Native.Nat.{ℕ, zero, suc, _-_, _≤_, _<_}
+use mathlib.Core.Path.{_≡_, refl, sym, ap, ap₂, _∙_}
+use mathlib.Core.List.{List, [], _∷_}
+use mathlib.Core.Bool.{Bool, true, false, not, cond, _&&_, _||_}
+use native.Mathlib.Omega.{arith}
+use lib.Dec.{leb, ltb, eqb}
+use lib.ListN.{length, take}
+use borrow.Author.Tests.{not-true, not-false, leb-true, le-leb, lt-leb, ltb-true, ltb-false, eqb-true, eq-eqb, ne-eqb}
+use Rattle.order.specs.Map.{All}
+use Rattle.serial.specs.declared.Serial.{Serial}
+use Rattle.serial.specs.declared.Session.{Session}
+use Rattle.serial.specs.Serial.{distanceOf, sessionOf}
+use Rattle.field.specs.declared.tag.Form.the-variants.{Snapshot, Delta}
+use Rattle.field.specs.declared.verdict.Verdict.{Verdict}
+use Rattle.field.specs.declared.verdict.Verdict.the-variants as verdict
+use Rattle.field.specs.Verdict.{verdict}
+use Rattle.payload.specs.Content.{Bytes}
+use Rattle.payload.specs.Limit.{limit}
+use Rattle.payload.specs.Payload.{encode}
+use Rattle.delta.specs.declared.refusal.Refusal.{Refusal}
+use Rattle.delta.specs.declared.refusal.Refusal.the-variants.{NoRoom, OtherSession, NotServed, IllFormed}
+use Rattle.delta.specs.declared.admit.Admitted.{Admitted}
+use Rattle.delta.specs.declared.admit.Admitted.the-variants.{Yes, No}
+use Rattle.delta.specs.declared.sink.Counts.{Counts}
+use Rattle.delta.specs.declared.walk.Output.{Output}
+use Rattle.delta.specs.declared.walk.Output.the-variants as output
+use Rattle.delta.specs.Admission.{andThen}
+use Rattle.delta.specs.Answer.{countsOf, outAfter}
+use Rattle.delta.specs.Walk.{outputOf, wholeOut}
+use Rattle.delta.proofs.Answering.{delta-room, delta-written, delta-out}
+use Rattle.history.specs.declared.state.History.{History}
+use Rattle.history.specs.declared.query.Answer.the-variants.{Served}
+use Rattle.history.specs.declared.query.Queried.{Queried}
+use Rattle.history.specs.Store.{total, cuts, heldLengths, heldDeltas}
+use Rattle.history.specs.WellFormed.{isFine, isGood, every, goodKeep, inRange, goodSerial, goodStart, goodStores, goodHeld, wellFormed}
+use Rattle.history.specs.Query.{isServed, isSession, passes, queryAdmitted, mergedLast, answerOf, refusedWith, servedWith, queryAt, queryOf, queryOut}
+use Rattle.history.specs.Place.{IsFine, Stored, lastMerged}
+use Rattle.history.proofs.Served.{served-rule, rule-within}
+
+-- ---- the tests
+
+pub session-is : (h : History) (session own : Session) → own ≡ sessionOf (h .session) → eqb (session .0) (own .0) ≡ isSession h session
+session-is h session own e = ap (λ (s : Session). eqb (session .0) (s .0)) e
+
+module _ (n : ℕ) (asked : Serial) (d : ℕ) where
+  pub served-start : n ≡ 0 → eqb (asked .0) 0 ≡ isServed n asked d
+  served-start e = rw (eq-eqb n 0 e)
+
+  module _ (h : n ≡ 0 → ⊥) where
+    pub served-near : d < 2 → true ≡ isServed n asked d
+    served-near k = rw (ne-eqb n 0 h) (go d k)
+      where
+        go : (m : ℕ) → m < 2 → true ≡ (eqb m 0 || eqb m 1 || (leb 2 m && leb m (n - 1)))
+        go zero k = refl
+        go (suc zero) k = refl
+        go (suc (suc m)) k = absurd (omega arith)
+
+    pub served-far : 2 ≤ d → ltb d n ≡ isServed n asked d
+    served-far k =
+        rw (ne-eqb n 0 h, ne-eqb d 0 (omega arith), ne-eqb d 1 (omega arith), le-leb 2 d k) (go (ltb d n) refl)
+      where
+        go : (t : Bool) → ltb d n ≡ t → t ≡ leb d (n - 1)
+        go true e = sym (le-leb d (n - 1) (omega (arith, ltb-true d n e)))
+        go false e = sym (lt-leb d (n - 1) (omega (arith, ltb-false d n e)))
+
+pub ruleset testing = (session-is, served-start, served-near, served-far)
+
+-- ---- 7, then 5, then 6
+
+module _ (h : History) (session : Session) (asked : Serial) (snapshots deltas : Bytes) (t : Bool) (e : t ≡ wellFormed h snapshots deltas) where
+  pub ask-formed : not t ≡ true → No IllFormed ≡ queryAdmitted h session asked snapshots deltas
+  ask-formed q = rw (← e, not-true t q)
+
+  module _ (q : not t ≡ false) (u : Bool) (f : u ≡ isSession h session) where
+    pub ask-session : not u ≡ true → No OtherSession ≡ queryAdmitted h session asked snapshots deltas
+    ask-session p = rw (← e, not-false t q, ← f, not-true u p)
+
+    module _ (p : not u ≡ false) (d : ℕ) (i : d ≡ distanceOf (h .newest) asked) (v : Bool) (g : v ≡ isServed (h .n) asked d) where
+      pub ask-serial : not v ≡ true → No NotServed ≡ queryAdmitted h session asked snapshots deltas
+      ask-serial o = rw (← e, not-false t q, ← f, not-false u p, ← i, ← g, not-true v o)
+
+      pub ask-served : not v ≡ false → Yes ≡ queryAdmitted h session asked snapshots deltas
+      ask-served o = rw (← e, not-false t q, ← f, not-false u p, ← i, ← g, not-false v o)
+
+pub ruleset asking = (ask-formed, ask-session, ask-serial, ask-served)
+
+-- ---- serve
+
+merged-is : (h : History) (d : ℕ) (deltas : Bytes) → encode Delta (lastMerged deltas (h .deltas) (h .n) d) ≡ mergedLast d (heldDeltas h deltas)
+unfolding mergedLast
+merged-is h d deltas = refl
+
+module _ (h : History) (d : ℕ) (deltas : Bytes) (n : ℕ) (en : n ≡ h .n) where
+  pub serve-stored : Stored deltas (h .deltas) (h .n) → Stored deltas (h .deltas) n
+  serve-stored s = rw en s
+
+  module _ (k : ℕ) (ek : k ≡ d) (o : Bytes) where
+    module _ (w : Output) (e : w ≡ outputOf Delta (lastMerged deltas (h .deltas) n k) (length o)) where
+      output-is : w ≡ outputOf Delta (lastMerged deltas (h .deltas) (h .n) d) (length o)
+      output-is = e ∙ rw (en, ek)
+
+      pub serve-written : (c : Counts) (s : Session) → w ≡ output.Written c → s ≡ sessionOf (h .session) →
+          record { session = s; serial = h .newest; answer = Served c } ≡ queryAt Yes h (mergedLast d (heldDeltas h deltas)) (length o)
+      serve-written c s q i =
+          let b = mergedLast d (heldDeltas h deltas) in
+          let m = delta-written (lastMerged deltas (h .deltas) (h .n) d) b (merged-is h d deltas) (length o) c (sym q ∙ output-is) in
+          rw (le-leb (length b) (length o) (m .0), i, m .1)
+
+      pub serve-long : (r : Queried) → w ≡ output.NoRoom → r ≡ refusedWith NoRoom → r ≡ queryAt Yes h (mergedLast d (heldDeltas h deltas)) (length o)
+      serve-long r q i =
+          let b = mergedLast d (heldDeltas h deltas) in
+          let m = delta-room (lastMerged deltas (h .deltas) (h .n) d) b (merged-is h d deltas) (length o) (sym q ∙ output-is) in
+          rw (lt-leb (length b) (length o) m) i
+
+    pub serve-bytes : (o′ : Bytes) → o′ ≡ wholeOut Delta (lastMerged deltas (h .deltas) n k) o → o′ ≡ outAfter Yes (mergedLast d (heldDeltas h deltas)) o
+    serve-bytes o′ e =
+        e ∙ rw (en, ek) (delta-out (lastMerged deltas (h .deltas) (h .n) d) (mergedLast d (heldDeltas h deltas)) (merged-is h d deltas) o)
+
+pub ruleset serving = (serve-stored, serve-written, serve-long, serve-bytes)
+
+-- ---- what an admitted query may rely on
+
+both : (a b : Bool) → (a && b) ≡ true → (a ≡ true) × (b ≡ true)
+both true b e = (refl, e)
+both false b e = absurd (let z : _≡_ {A = ℕ} 0 1 = cc in omega arith)
+
+fine-true : (v : Verdict) → isFine v ≡ true → v ≡ verdict.Fine
+fine-true verdict.Fine e = refl
+fine-true (verdict.Bad at) e = absurd (let z : _≡_ {A = ℕ} 0 1 = cc in omega arith)
+fine-true (verdict.NotAbove at) e = absurd (let z : _≡_ {A = ℕ} 0 1 = cc in omega arith)
+
+every-true : (ds : List Bytes) → every (isGood Delta) ds ≡ true → All IsFine ds
+every-true [] e = tt
+every-true (d ∷ ds) e = let p = both (isGood Delta d) (every (isGood Delta) ds) e in (fine-true (verdict Delta d) (p .0), every-true ds (p .1))
+
+module _ (h : History) (snapshots deltas : Bytes) (e : wellFormed h snapshots deltas ≡ true) where
+  abbrev state : Bool
+  state = inRange h && goodSerial h && goodStart h
+
+  split : ((inRange h ≡ true) × (goodSerial h ≡ true)) × ((goodStores h snapshots deltas ≡ true) × (goodHeld h snapshots deltas ≡ true))
+  unfolding wellFormed
+  split =
+      let a = both (state && goodStores h snapshots deltas) (goodHeld h snapshots deltas) e in
+      let b = both state (goodStores h snapshots deltas) (a .0) in
+      let c = both (inRange h && goodSerial h) (goodStart h) (b .0) in
+      (both (inRange h) (goodSerial h) (c .0), (b .1, a .1))
+
+  formed-few : h .n ≤ 64
+  formed-few =
+      let a = both (goodKeep (h .keep)) (leb (h .n) (h .keep)) (split .0 .0) in
+      let b = both (leb 1 (h .keep)) (leb (h .keep) 64) (a .0) in
+      omega (arith, leb-true (h .n) (h .keep) (a .1), leb-true (h .keep) 64 (b .1))
+
+  -- with no deltas F is 0
+  formed-serial : h .n ≡ 0 → h .newest .0 ≡ 0
+  formed-serial z = go (h .active) (rw z at (split .0 .1))
+    where
+      go : (t : Bool) → cond t (cond (eqb 0 0) (eqb (h .newest .0) 0) true) (eqb (h .newest .0) 0) ≡ true → h .newest .0 ≡ 0
+      go true q = eqb-true (h .newest .0) 0 q
+      go false q = eqb-true (h .newest .0) 0 q
+
+  pub formed-stored : Stored deltas (h .deltas) (h .n)
+  formed-stored =
+      let a = both (leb (length snapshots) (limit Snapshot) && leb (length deltas) (limit Delta) && leb (h .snapshot) (length snapshots)) (leb (total (heldLengths h)) (length deltas)) (split .1 .0) in
+      let b = both (leb (length snapshots) (limit Snapshot) && leb (length deltas) (limit Delta)) (leb (h .snapshot) (length snapshots)) (a .0) in
+      let c = both (leb (length snapshots) (limit Snapshot)) (leb (length deltas) (limit Delta)) (b .0) in
+      let d = both (isGood Snapshot (take (h .snapshot) snapshots)) (every (isGood Delta) (heldDeltas h deltas)) (split .1 .1) in
+      record {
+        few = formed-few;
+        fits = leb-true (total (heldLengths h)) (length deltas) (a .1);
+        small = leb-true (length deltas) (limit Delta) (c .1);
+        good = every-true (heldDeltas h deltas) (d .1);
+      }
+
+-- ---- query
+
+-- the tests of an admitted query
+tests-true : (t u v : Bool) → andThen (passes t IllFormed) (andThen (passes u OtherSession) (passes v NotServed)) ≡ Yes → (t ≡ true) × (v ≡ true)
+tests-true true true true e = (refl, refl)
+tests-true true true false e = absurd (let z : _≡_ {A = ℕ} 0 1 = cc in omega arith)
+tests-true true false v e = absurd (let z : _≡_ {A = ℕ} 0 1 = cc in omega arith)
+tests-true false u v e = absurd (let z : _≡_ {A = ℕ} 0 1 = cc in omega arith)
+
+module _ (h : History) (session : Session) (asked : Serial) (snapshots deltas : Bytes) (x : Admitted) (e : x ≡ queryAdmitted h session asked snapshots deltas) where
+  module _ (r : Refusal) (q : x ≡ No r) where
+    pub query-refused : (a : Queried) (room : ℕ) → a ≡ refusedWith r → a ≡ queryOf h session asked snapshots deltas room
+    unfolding queryOf
+    query-refused a room i = rw (← e, q) i
+
+    pub query-kept : (o : Bytes) → o ≡ queryOut h session asked snapshots deltas o
+    unfolding queryOut
+    query-kept o = rw (← e, q)
+
+  module _ (q : x ≡ Yes) where
+    passed : (wellFormed h snapshots deltas ≡ true) × (isServed (h .n) asked (distanceOf (h .newest) asked) ≡ true)
+    passed = tests-true (wellFormed h snapshots deltas) (isSession h session) (isServed (h .n) asked (distanceOf (h .newest) asked)) (sym e ∙ q)
+
+    pub query-stored : Stored deltas (h .deltas) (h .n)
+    query-stored = formed-stored h snapshots deltas (passed .0)
+
+    module _ (d : ℕ) (i : d ≡ distanceOf (h .newest) asked) where
+      pub query-within : d ≤ h .n
+      query-within =
+          let w = rule-within (h .n) (h .newest) asked (formed-serial h snapshots deltas (passed .0)) (served-rule (h .n) asked (distanceOf (h .newest) asked) (passed .1)) in
+          rw i w
+
+      pub query-served : (a : Queried) (room : ℕ) → a ≡ queryAt Yes h (mergedLast d (heldDeltas h deltas)) room → a ≡ queryOf h session asked snapshots deltas room
+      unfolding queryOf
+      query-served a room j = rw (← e, q) (rw i at j)
+
+      pub query-bytes : (o o′ : Bytes) → o′ ≡ outAfter Yes (mergedLast d (heldDeltas h deltas)) o → o′ ≡ queryOut h session asked snapshots deltas o
+      unfolding queryOut
+      query-bytes o o′ j = rw (← e, q) (rw i at j)
+
+pub ruleset querying = (query-refused, query-kept, query-stored, query-within, query-served, query-bytes)

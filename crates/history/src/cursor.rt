@@ -1,0 +1,13 @@
+// A cursor: where the walk stands in one run of the delta store. The run ends at e, and its items lie in the store itself.
+use delta::reading::Read;
+use delta::reading::Reading;
+use delta::reading::read_at;
+ghost use Rattle.history.specs.Cursor.{Stands, Heads};
+
+// The item at p of a run that ends at e.
+pub fn item_at(store: &[u8], p: usize, e: usize) -> Read
+    requires { ⌜ Stands (now store) p e ⌝ }
+    ensures { λ r. ⌜ Heads (now (store .entry)) p e r ⌝ }
+{
+    read_at(Reading::Changes, &store[..e], p)
+}

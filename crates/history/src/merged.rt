@@ -1,0 +1,79 @@
+// The last deltas merged and written: measured first, so that nothing is written where not all of it fits.
+use crate::next::Step;
+use crate::next::next;
+use crate::place::Places;
+use crate::place::place_all;
+use delta::sink::Counts;
+use delta::sink::put_item;
+use delta::walk::Output;
+use field::tag::Form;
+ghost use mathlib.Core.Path.{_≡_};
+ghost use Prim.Native.Nat.{_≤_};
+ghost use lib.ListN.{length};
+ghost use lib.Seq.{sets};
+ghost use Rattle.field.specs.declared.tag.Form.the-variants.{Delta};
+ghost use Rattle.delta.specs.Write.{plusAll, writes, zero};
+ghost use Rattle.delta.specs.Walk.{outputOf, wholeOut};
+ghost use Rattle.history.specs.Cursor.{Bounded, leftOf};
+ghost use Rattle.history.specs.Place.{Stored, lastMerged};
+
+// The merge of the runs from `from` up to n, as far as out has room; its counts whether it has room or not.
+fn put_all(
+    store: &[u8],
+    at: &mut [usize; 64],
+    ends: &[usize; 64],
+    from: usize,
+    n: usize,
+    out: &mut [u8],
+) -> Counts
+    requires { ⌜ Bounded (now store) (now at) (now ends) from n ⌝ }
+    ensures { λ r. ⌜ (r ≡ plusAll Delta zero (leftOf (now (store .entry)) (now (at .entry)) (now (ends .entry)) from n)) × (now (out .exit) ≡ sets (now (out .entry)) 0 (writes Delta (leftOf (now (store .entry)) (now (at .entry)) (now (ends .entry)) from n))) ⌝ }
+{
+    let mut counts = Counts {
+        len: 0,
+        announced: 0,
+        withdrawn: 0,
+    };
+    loop {
+        let Step::Item(key, act) = next(store, at, ends, from, n) else {
+            return counts;
+        };
+        counts = put_item(Form::Delta, store, key, act, store, out, counts);
+    }
+}
+
+// The counts of the merge.
+fn measure(store: &[u8], places: Places, from: usize, n: usize) -> Counts
+    requires { ⌜ Bounded (now store) (places .at) (places .ends) from n ⌝ }
+    ensures { λ r. ⌜ r ≡ plusAll Delta zero (leftOf (now (store .entry)) (places .at) (places .ends) from n) ⌝ }
+{
+    let mut at = places.at;
+    let ends = places.ends;
+    let mut nothing = [0u8; 1];
+    put_all(store, &mut at, &ends, from, n, &mut nothing)
+}
+
+// The merge, if out has room for all of it; else nothing is written.
+fn put_whole(store: &[u8], places: Places, from: usize, n: usize, out: &mut [u8]) -> Output
+    requires { ⌜ Bounded (now store) (places .at) (places .ends) from n ⌝ }
+    ensures { λ r. ⌜ (r ≡ outputOf Delta (leftOf (now (store .entry)) (places .at) (places .ends) from n) (length (now (out .entry)))) × (now (out .exit) ≡ wholeOut Delta (leftOf (now (store .entry)) (places .at) (places .ends) from n) (now (out .entry))) ⌝ }
+{
+    let counts = measure(store, places, from, n);
+    let len = counts.len;
+    if out.len() < len {
+        return Output::NoRoom;
+    }
+    let mut at = places.at;
+    let ends = places.ends;
+    put_all(store, &mut at, &ends, from, n, out);
+    Output::Written(counts)
+}
+
+// The last d of the n deltas of these lengths, merged, earliest first.
+pub fn merged_last(store: &[u8], lengths: [u32; 64], n: usize, d: usize, out: &mut [u8]) -> Output
+    requires { ⌜ Stored (now store) lengths n × (d ≤ n) ⌝ }
+    ensures { λ r. ⌜ (r ≡ outputOf Delta (lastMerged (now (store .entry)) lengths n d) (length (now (out .entry)))) × (now (out .exit) ≡ wholeOut Delta (lastMerged (now (store .entry)) lengths n d) (now (out .entry))) ⌝ }
+{
+    let places = place_all(lengths, n);
+    put_whole(store, places, n - d, n, out)
+}

@@ -1,0 +1,36 @@
+// The walk over the runs as an iterator: each call gives the next item of their merge.
+use crate::gather::gather;
+use crate::least::Found;
+use crate::least::least;
+use delta::place::Act;
+use delta::place::Held;
+use field::key::Key;
+ghost use Rattle.history.specs.Cursor.{Walks, NextIs};
+
+// An item, by where its key and its values lie in the store.
+pub enum Step {
+    End,
+    Item(Key, Act),
+}
+
+// The next item of the runs from `from` up to n, merged; keys of which nothing is left are passed over.
+pub fn next(
+    store: &[u8],
+    at: &mut [usize; 64],
+    ends: &[usize; 64],
+    from: usize,
+    n: usize,
+) -> Step
+    requires { ⌜ Walks (now store) (now at) (now ends) from n ⌝ }
+    ensures { λ r. ⌜ NextIs (now (store .entry)) (now (at .entry)) (now (at .exit)) (now (ends .entry)) from n r ⌝ }
+{
+    loop {
+        let Found::At(key) = least(store, at, ends, from, n) else {
+            return Step::End;
+        };
+        let held = gather(store, at, ends, from, n, key);
+        if let Held::Is(act) = held {
+            return Step::Item(key, act);
+        }
+    }
+}
