@@ -2,3 +2,4 @@
 pub mod answer;
 pub mod calls;
 pub mod state;
+pub mod told;
