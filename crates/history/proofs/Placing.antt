@@ -163,7 +163,7 @@ module _ (s : Bytes) (lengths : List ℕ) (n : ℕ) (r : Places) (p : Placed len
       let l : i < length lengths = omega (arith, p .known) in
       let a : changes (drop (getD (r .at) i 0) (take (getD (r .ends) i 0) s)) ≡ changes (take (getD lengths i 0) (drop (total (take i lengths)) s)) = ap changes (cut-is i (omega arith)) in
       let b : drop (getD lengths i 0) (drop (total (take i lengths)) s) ≡ drop (total (take (suc i) lengths)) s =
-          drop-drop (getD lengths i 0) (total (take i lengths)) s ∙ ap (λ (k : ℕ). drop k s) (sym (total-next lengths i l)) in
+      drop-drop (getD lengths i 0) (total (take i lengths)) s ∙ ap (λ (k : ℕ). drop k s) (sym (total-next lengths i l)) in
       rw (drop-cons lengths i 0 l) (ap₂ (λ (x : D) (y : List D). x ∷ y) a (runs-are (suc i) m (omega arith) ∙ rw b))
 
   module _ (d : ℕ) (h : d ≤ n) where
@@ -172,8 +172,8 @@ module _ (s : Bytes) (lengths : List ℕ) (n : ℕ) (r : Places) (p : Placed len
         let e : n - (n - d) ≡ n - (n - d) = refl in
         runs-are (n - d) (n - (n - d)) (omega arith)
         ∙ ap (map changes) (
-          ap₂ cuts (sym (drop-take (n - d) n lengths)) (ap (λ (l : List ℕ). drop (total l) s) (sym (take-take (n - d) n lengths (omega arith))))
-          ∙ sym (cuts-drop (n - d) (take n lengths) s)
+        ap₂ cuts (sym (drop-take (n - d) n lengths)) (ap (λ (l : List ℕ). drop (total l) s) (sym (take-take (n - d) n lengths (omega arith))))
+        ∙ sym (cuts-drop (n - d) (take n lengths) s)
         )
 
     last-is : runs s (r .at) (r .ends) (n - d) n ≡ map changes (lastN d (cuts (take n lengths) s))

@@ -6,6 +6,7 @@ use serial::session16;
 ghost use mathlib.Core.Path.{_≡_};
 ghost use Rattle.history.specs.Full.{notifyOf, readyOf};
 
+#[repr(C)]
 pub struct Notice {
     pub session: Session,
     pub serial: Serial,

@@ -1,0 +1,123 @@
+// The exported functions.
+use crate::answer::Answer;
+use crate::answer::applied_as;
+use crate::answer::constructed_as;
+use crate::answer::merged_as;
+use crate::state::State;
+use crate::state::history_of;
+use crate::told::Made;
+use crate::told::Told;
+use crate::told::created_as;
+use crate::told::queried_as;
+use crate::told::told_full;
+use delta::apply::apply;
+use delta::construct::construct;
+use delta::merge::merge;
+use history::create::create;
+use history::full::full_answer;
+use history::notify::Notice;
+use history::notify::notify;
+use history::notify::ready;
+use history::query::query;
+use serial::Serial;
+use serial::Session;
+use serial::timing::Timing;
+use serial::timing::clamp;
+ghost use mathlib.Core.Path.{_≡_};
+ghost use lib.ListN.{length};
+ghost use Rattle.serial.specs.Timing.{timingOf};
+ghost use Rattle.delta.specs.Answer.{constructOf, constructOut, mergeOf, mergeOut, applyOf, applyOut};
+ghost use Rattle.history.specs.Create.{createOf};
+ghost use Rattle.history.specs.Query.{queryOf, queryOut};
+ghost use Rattle.history.specs.Full.{fullOf, notifyOf, readyOf};
+ghost use Rattle.host.specs.State.{historyOf};
+ghost use Rattle.host.specs.Told.{madeCreated, toldQueried, toldFull};
+ghost use Rattle.host.specs.Flat.{flatConstructed, flatMerged, flatApplied};
+
+#[no_mangle]
+pub extern "C" fn taplevung_construct(
+    old: &[u8],
+    new: &[u8],
+    serial: Serial,
+    out: &mut [u8],
+) -> Answer
+    ensures { λ r. ⌜ (r ≡ flatConstructed (constructOf (now (old .entry)) (now (new .entry)) serial (length (now (out .entry))))) × (now (out .exit) ≡ constructOut (now (old .entry)) (now (new .entry)) (now (out .entry))) ⌝ }
+{
+    constructed_as(construct(old, new, serial, out))
+}
+
+#[no_mangle]
+pub extern "C" fn taplevung_merge(
+    earlier: &[u8],
+    later: &[u8],
+    serial: Serial,
+    out: &mut [u8],
+) -> Answer
+    ensures { λ r. ⌜ (r ≡ flatMerged (mergeOf (now (earlier .entry)) (now (later .entry)) serial (length (now (out .entry))))) × (now (out .exit) ≡ mergeOut (now (earlier .entry)) (now (later .entry)) (now (out .entry))) ⌝ }
+{
+    merged_as(merge(earlier, later, serial, out))
+}
+
+#[no_mangle]
+pub extern "C" fn taplevung_apply(snapshot: &[u8], delta: &[u8], out: &mut [u8]) -> Answer
+    ensures { λ r. ⌜ (r ≡ flatApplied (applyOf (now (snapshot .entry)) (now (delta .entry)) (length (now (out .entry))))) × (now (out .exit) ≡ applyOut (now (snapshot .entry)) (now (delta .entry)) (now (out .entry))) ⌝ }
+{
+    applied_as(apply(snapshot, delta, out))
+}
+
+#[no_mangle]
+pub extern "C" fn taplevung_timing(refresh: u32, retry: u32, expire: u32) -> Timing
+    ensures { λ r. ⌜ r ≡ timingOf (record { refresh = refresh; retry = retry; expire = expire }) ⌝ }
+{
+    clamp(Timing {
+        refresh,
+        retry,
+        expire,
+    })
+}
+
+#[no_mangle]
+pub extern "C" fn taplevung_create(session: u64, keep: u32, snapshots: &[u8], deltas: &[u8]) -> Made
+    ensures { λ r. ⌜ r ≡ madeCreated (createOf session keep (now (snapshots .entry)) (now (deltas .entry))) ⌝ }
+{
+    created_as(create(session, keep, snapshots, deltas))
+}
+
+#[no_mangle]
+pub extern "C" fn taplevung_query(
+    state: State,
+    session: Session,
+    serial: Serial,
+    snapshots: &[u8],
+    deltas: &[u8],
+    out: &mut [u8],
+) -> Told
+    ensures { λ r. ⌜ (r ≡ toldQueried (queryOf (historyOf state) session serial (now (snapshots .entry)) (now (deltas .entry)) (length (now (out .entry))))) × (now (out .exit) ≡ queryOut (historyOf state) session serial (now (snapshots .entry)) (now (deltas .entry)) (now (out .entry))) ⌝ }
+{
+    let h = history_of(state);
+    queried_as(query(h, session, serial, snapshots, deltas, out))
+}
+
+#[no_mangle]
+pub extern "C" fn taplevung_full(state: State, snapshots: &[u8], deltas: &[u8]) -> Told
+    ensures { λ r. ⌜ r ≡ toldFull (fullOf (historyOf state) (now (snapshots .entry)) (now (deltas .entry))) ⌝ }
+{
+    let h = history_of(state);
+    told_full(full_answer(h, snapshots, deltas))
+}
+
+#[no_mangle]
+pub extern "C" fn taplevung_notify(state: State) -> Notice
+    ensures { λ r. ⌜ r ≡ notifyOf (historyOf state) ⌝ }
+{
+    let h = history_of(state);
+    notify(h)
+}
+
+#[no_mangle]
+pub extern "C" fn taplevung_ready(state: State) -> bool
+    ensures { λ r. ⌜ r ≡ readyOf (historyOf state) ⌝ }
+{
+    let h = history_of(state);
+    ready(h)
+}

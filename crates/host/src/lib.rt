@@ -1,0 +1,5 @@
+// The C interface: numbers, byte slices and structs by value.
+pub mod answer;
+pub mod calls;
+pub mod state;
+pub mod told;
