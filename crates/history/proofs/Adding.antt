@@ -21,16 +21,16 @@ use Rattle.delta.specs.declared.admit.Admitted.the-variants.{Yes, No}
 use Rattle.delta.specs.Admission.{refusalOf, andThen, admitOneOf}
 use Rattle.delta.proofs.Answering.{Inputs}
 use Rattle.delta.proofs.Places.{drop-take}
-use Rattle.history.specs.declared.state.History.{History}
+use Rattle.past.specs.declared.state.History.{History}
 use Rattle.history.specs.declared.push.Kept.{Kept}
-use Rattle.history.specs.Store.{total, cuts, joined, heldSnapshot, heldLengths, heldDeltas, lengthsOf, storeAfter}
-use Rattle.history.specs.WellFormed.{isFine, isGood, every, goodKeep, inRange, goodSerial, goodStart, wellFormed}
+use Rattle.past.specs.Store.{total, cuts, joined, heldSnapshot, heldLengths, heldDeltas, lengthsOf, storeAfter}
+use Rattle.past.specs.WellFormed.{isFine, isGood, every, goodKeep, inRange, goodSerial, goodStart, wellFormed}
 use Rattle.history.specs.Check.{goodState, goodSnapshot, goodRuns, goodDeltas}
-use Rattle.history.specs.Update.{pushed, deltasWith, nextState}
+use Rattle.past.specs.Update.{pushed, deltasWith, nextState}
 use Rattle.history.specs.Push.{between, dropsOf, keptOf, lengthsWith, grownOf, laid, Ranged, Compares, Renews}
-use Rattle.history.proofs.Lists.{map-push}
-use Rattle.history.proofs.Store.{cuts-length, joined-length}
-use Rattle.history.proofs.Steps.{admitted-fine}
+use Rattle.past.proofs.Lists.{map-push}
+use Rattle.past.proofs.Store.{cuts-length, joined-length}
+use Rattle.past.proofs.Steps.{admitted-fine}
 use Rattle.history.proofs.Forming.{formed-parts}
 use Rattle.history.proofs.Pushing.{drops-few}
 

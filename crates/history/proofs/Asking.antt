@@ -29,14 +29,14 @@ use Rattle.delta.specs.Admission.{andThen}
 use Rattle.delta.specs.Answer.{countsOf, outAfter}
 use Rattle.delta.specs.Walk.{outputOf, wholeOut}
 use Rattle.delta.proofs.Answering.{delta-room, delta-written, delta-out}
-use Rattle.history.specs.declared.state.History.{History}
-use Rattle.history.specs.declared.query.Answer.the-variants.{Served}
-use Rattle.history.specs.declared.query.Queried.{Queried}
-use Rattle.history.specs.Store.{total, cuts, heldLengths, heldDeltas}
-use Rattle.history.specs.WellFormed.{isFine, isGood, every, goodKeep, inRange, goodSerial, goodStart, goodStores, goodHeld, wellFormed}
-use Rattle.history.specs.Query.{isServed, isSession, passes, queryAdmitted, mergedLast, answerOf, refusedWith, servedWith, queryAt, queryOf, queryOut}
+use Rattle.past.specs.declared.state.History.{History}
+use Rattle.past.specs.declared.query.Answer.the-variants.{Served}
+use Rattle.past.specs.declared.query.Queried.{Queried}
+use Rattle.past.specs.Store.{total, cuts, heldLengths, heldDeltas}
+use Rattle.past.specs.WellFormed.{isFine, isGood, every, goodKeep, inRange, goodSerial, goodStart, goodStores, goodHeld, wellFormed}
+use Rattle.past.specs.Query.{isServed, isSession, passes, queryAdmitted, mergedLast, answerOf, refusedWith, servedWith, queryAt, queryOf, queryOut}
 use Rattle.history.specs.Place.{IsFine, Stored, lastMerged}
-use Rattle.history.proofs.Served.{served-rule, rule-within}
+use Rattle.past.proofs.Served.{served-rule, rule-within}
 
 -- ---- the tests
 

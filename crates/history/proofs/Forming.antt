@@ -15,9 +15,9 @@ use Rattle.field.specs.declared.verdict.Verdict.the-variants as verdict
 use Rattle.field.specs.Verdict.{verdict}
 use Rattle.payload.specs.Content.{Bytes}
 use Rattle.payload.specs.Limit.{limit}
-use Rattle.history.specs.declared.state.History.{History}
-use Rattle.history.specs.Store.{total, cuts, heldLengths, heldDeltas, heldSnapshot}
-use Rattle.history.specs.WellFormed.{isGood, every, goodKeep, inRange, goodSerial, goodStart, wellFormed}
+use Rattle.past.specs.declared.state.History.{History}
+use Rattle.past.specs.Store.{total, cuts, heldLengths, heldDeltas, heldSnapshot}
+use Rattle.past.specs.WellFormed.{isGood, every, goodKeep, inRange, goodSerial, goodStart, wellFormed}
 use Rattle.history.specs.Check.{goodState, goodSnapshot, goodRuns, goodDeltas}
 
 -- ---- the state

@@ -14,7 +14,7 @@ use Rattle.delta.specs.Write.{writes}
 use Rattle.delta.specs.Walk.{Runs, mergedAs}
 use Rattle.delta.specs.Answer.{differenceOf}
 use Rattle.delta.proofs.Answering.{runs-of, difference-is}
-use Rattle.history.specs.Store.{storeAfter}
+use Rattle.past.specs.Store.{storeAfter}
 use Rattle.history.specs.Push.{Pushes, laid}
 
 -- ---- bytes moved down

@@ -1,9 +1,3 @@
-pub mod Lists
-pub mod Store
-pub mod Served
-pub mod Steps
-pub mod Invariant
-pub mod Queries
 pub mod Standing
 pub mod Lowering
 pub mod Gathering
@@ -11,9 +5,6 @@ pub mod Stepping
 pub mod Putting
 pub mod Placing
 pub mod Asking
-pub mod Runs
-pub mod Marked
-pub mod Examples
 pub mod Forming
 pub mod Replying
 pub mod Pushing

@@ -25,11 +25,11 @@ use Rattle.delta.specs.Reading.{Ready}
 use Rattle.delta.specs.Walk.{outputOf, wholeOut}
 use Rattle.delta.proofs.Places.{drop-take}
 use Rattle.history.specs.declared.place.Places.{Places}
-use Rattle.history.specs.Store.{total, cuts}
+use Rattle.past.specs.Store.{total, cuts}
 use Rattle.history.specs.Cursor.{D, run, runsN, runs, leftOf, itemsIn, itemsLeft, Stands, Within, Walks, Bounded}
 use Rattle.history.specs.Place.{Summed, Placed, IsFine, Stored, lastMerged}
-use Rattle.history.proofs.Lists.{all-map}
-use Rattle.history.proofs.Store.{cuts-length}
+use Rattle.past.proofs.Lists.{all-map}
+use Rattle.past.proofs.Store.{cuts-length}
 
 -- ---- sums
 

@@ -12,9 +12,9 @@ use borrow.Author.Tests.{eq-eqb, ne-eqb, eqb-true, eqb-false}
 use Rattle.delta.proofs.Sinking.{sets-append}
 use Rattle.serial.specs.declared.Serial.{Serial}
 use Rattle.serial.specs.Serial.{nextOf}
-use Rattle.history.specs.declared.state.History.{History}
+use Rattle.past.specs.declared.state.History.{History}
 use Rattle.history.specs.declared.push.Kept.{Kept}
-use Rattle.history.specs.Store.{total}
+use Rattle.past.specs.Store.{total}
 use Rattle.history.specs.Push.{between, dropsOf, keptOf, lengthsWith, grownOf, Ranged, Grows}
 
 -- ---- how many are dropped

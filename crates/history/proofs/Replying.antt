@@ -15,15 +15,15 @@ use Rattle.delta.specs.declared.refusal.Refusal.{Refusal}
 use Rattle.delta.specs.declared.refusal.Refusal.the-variants.{BadKeep, IllFormed, TooLong}
 use Rattle.delta.specs.declared.admit.Admitted.{Admitted}
 use Rattle.delta.specs.declared.admit.Admitted.the-variants.{Yes, No}
-use Rattle.history.specs.declared.state.History.{History}
-use Rattle.history.specs.declared.create.Creation.the-variants as creation
-use Rattle.history.specs.declared.create.Created.{Created}
-use Rattle.history.specs.declared.full.FullAnswer.the-variants as fulls
-use Rattle.history.specs.declared.full.Full.{Full}
-use Rattle.history.specs.declared.notify.Notice.{Notice}
-use Rattle.history.specs.WellFormed.{goodKeep, wellFormed}
-use Rattle.history.specs.Create.{freshOf, createAdmitted, createOf}
-use Rattle.history.specs.Full.{fullOf, notifyOf, readyOf}
+use Rattle.past.specs.declared.state.History.{History}
+use Rattle.past.specs.declared.create.Creation.the-variants as creation
+use Rattle.past.specs.declared.create.Created.{Created}
+use Rattle.past.specs.declared.full.FullAnswer.the-variants as fulls
+use Rattle.past.specs.declared.full.Full.{Full}
+use Rattle.past.specs.declared.notify.Notice.{Notice}
+use Rattle.past.specs.WellFormed.{goodKeep, wellFormed}
+use Rattle.past.specs.Create.{freshOf, createAdmitted, createOf}
+use Rattle.past.specs.Full.{fullOf, notifyOf, readyOf}
 
 -- ---- creation
 

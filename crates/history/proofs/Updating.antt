@@ -21,15 +21,15 @@ use Rattle.delta.specs.Write.{plusAll, zero}
 use Rattle.delta.specs.Walk.{Runs, mergedAs}
 use Rattle.delta.specs.Answer.{differenceOf, countsOf}
 use Rattle.delta.proofs.Answering.{Inputs, runs-of, difference-is, counts-are}
-use Rattle.history.specs.declared.state.History.{History}
+use Rattle.past.specs.declared.state.History.{History}
 use Rattle.history.specs.declared.push.Kept.{Kept}
-use Rattle.history.specs.declared.update.Update.the-variants as updates
-use Rattle.history.specs.declared.update.Updated.{Updated}
-use Rattle.history.specs.Store.{total, heldSnapshot, joined, storeAfter}
-use Rattle.history.specs.WellFormed.{wellFormed}
-use Rattle.history.specs.Update.{Step, refuse, first, unchanged, add, deltasWith, firstStep, admittedStep, stepFor, updateAt, updateOf, snapshotsAt, updateSnapshots, deltasAt, updateDeltas}
+use Rattle.past.specs.declared.update.Update.the-variants as updates
+use Rattle.past.specs.declared.update.Updated.{Updated}
+use Rattle.past.specs.Store.{total, heldSnapshot, joined, storeAfter}
+use Rattle.past.specs.WellFormed.{wellFormed}
+use Rattle.past.specs.Update.{Step, refuse, first, unchanged, add, deltasWith, firstStep, admittedStep, stepFor, updateAt, updateOf, snapshotsAt, updateSnapshots, deltasAt, updateDeltas}
 use Rattle.history.specs.Push.{between, dropsOf, keptOf, grownOf, laid, Ranged, Pushes, updateAdmitted, Judged, Grows, Compares, Accepts, Renews, Extends, Does, Stores, firstOf, firstStore}
-use Rattle.history.proofs.Steps.{unchanged-step}
+use Rattle.past.proofs.Steps.{unchanged-step}
 use Rattle.history.proofs.Adding.{Formed, formed-is, admitted-short, renews-compares, stay-within, with-total, with-store, with-state}
 
 -- ---- admission

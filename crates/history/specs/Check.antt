@@ -7,9 +7,9 @@ use lib.ListN.{length, take}
 use Rattle.field.specs.declared.tag.Form.the-variants.{Snapshot, Delta}
 use Rattle.payload.specs.Content.{Bytes}
 use Rattle.payload.specs.Limit.{limit}
-use Rattle.history.specs.declared.state.History.{History}
-use Rattle.history.specs.Store.{total, cuts}
-use Rattle.history.specs.WellFormed.{isGood, every, inRange, goodSerial, goodStart}
+use Rattle.past.specs.declared.state.History.{History}
+use Rattle.past.specs.Store.{total, cuts}
+use Rattle.past.specs.WellFormed.{isGood, every, inRange, goodSerial, goodStart}
 
 unfoldable pub goodState : History → Bool
 goodState h = inRange h && goodSerial h && goodStart h

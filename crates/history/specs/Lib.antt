@@ -1,13 +1,4 @@
-pub mod Store
-pub mod WellFormed
 pub mod Check
-pub mod Create
-pub mod Update
 pub mod Push
-pub mod Query
 pub mod Cursor
 pub mod Place
-pub mod Full
-pub mod Run
-pub mod Promise
-pub mod Marked

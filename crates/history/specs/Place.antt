@@ -13,7 +13,7 @@ use Rattle.field.specs.Verdict.{verdict}
 use Rattle.payload.specs.Content.{Bytes}
 use Rattle.payload.specs.Payload.{changes}
 use Rattle.history.specs.declared.place.Places.{Places}
-use Rattle.history.specs.Store.{total, cuts}
+use Rattle.past.specs.Store.{total, cuts}
 use Rattle.history.specs.Cursor.{D}
 
 -- n lengths that a delta store can have room for

@@ -15,12 +15,12 @@ use Rattle.delta.specs.declared.sink.Counts.{Counts}
 use Rattle.delta.specs.Admission.{admitOneOf}
 use Rattle.delta.specs.Answer.{differenceOf, countsOf}
 use Rattle.delta.proofs.Answering.{Inputs}
-use Rattle.history.specs.declared.state.History.{History}
+use Rattle.past.specs.declared.state.History.{History}
 use Rattle.history.specs.declared.push.Kept.{Kept}
-use Rattle.history.specs.declared.update.Updated.{Updated}
-use Rattle.history.specs.Store.{total, heldSnapshot}
-use Rattle.history.specs.WellFormed.{wellFormed}
-use Rattle.history.specs.Update.{firstStep, updateAt, updateOf, snapshotsAt, updateSnapshots, updateDeltas}
+use Rattle.past.specs.declared.update.Updated.{Updated}
+use Rattle.past.specs.Store.{total, heldSnapshot}
+use Rattle.past.specs.WellFormed.{wellFormed}
+use Rattle.past.specs.Update.{firstStep, updateAt, updateOf, snapshotsAt, updateSnapshots, updateDeltas}
 
 -- the lengths from `from` up to `to`
 abbrev pub between : List ℕ → ℕ → ℕ → List ℕ

@@ -1,23 +1,15 @@
 // Creation.
-use crate::state::History;
 use crate::well_formed::good_keep;
 use delta::admit::Admitted;
 use delta::admit::within_limit;
 use delta::refusal::Refusal;
 use field::tag::Form;
+use past::create::Created;
+use past::create::Creation;
+use past::state::History;
 use serial::Serial;
 ghost use mathlib.Core.Path.{_≡_};
-ghost use Rattle.history.specs.Create.{freshOf, createAdmitted, createOf};
-
-pub enum Creation {
-    Done,
-    Refused(Refusal),
-}
-
-pub struct Created {
-    pub answer: Creation,
-    pub history: History,
-}
+ghost use Rattle.past.specs.Create.{freshOf, createAdmitted, createOf};
 
 // Inactive, n = 0, F = 0, nothing held.
 fn fresh(session: u64, keep: u32) -> History

@@ -1,25 +1,15 @@
 // The full answer.
-use crate::state::History;
 use crate::well_formed::well_formed;
 use crate::well_formed::wide;
 use delta::refusal::Refusal;
+use past::full::Full;
+use past::full::FullAnswer;
+use past::state::History;
 use serial::Serial;
 use serial::Session;
 use serial::session16;
 ghost use mathlib.Core.Path.{_≡_};
-ghost use Rattle.history.specs.Full.{fullOf};
-
-pub enum FullAnswer {
-    Refused(Refusal),
-    // The length of the held snapshot.
-    Held(usize),
-}
-
-pub struct Full {
-    pub session: Session,
-    pub serial: Serial,
-    pub answer: FullAnswer,
-}
+ghost use Rattle.past.specs.Full.{fullOf};
 
 // The 16-bit session, F and the held snapshot; refusal 7 alone.
 pub fn full_answer(history: History, snapshots: &[u8], deltas: &[u8]) -> Full

@@ -10,7 +10,6 @@ pub mod notify;
 pub mod place;
 pub mod push;
 pub mod query;
-pub mod state;
 pub mod stores;
 pub mod update;
 pub mod well_formed;

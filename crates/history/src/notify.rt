@@ -1,16 +1,11 @@
 // The notice of a new serial, and whether there is one.
-use crate::state::History;
+use past::notify::Notice;
+use past::state::History;
 use serial::Serial;
 use serial::Session;
 use serial::session16;
 ghost use mathlib.Core.Path.{_≡_};
-ghost use Rattle.history.specs.Full.{notifyOf, readyOf};
-
-#[repr(C)]
-pub struct Notice {
-    pub session: Session,
-    pub serial: Serial,
-}
+ghost use Rattle.past.specs.Full.{notifyOf, readyOf};
 
 // The 16-bit session and F.
 pub fn notify(history: History) -> Notice

@@ -1,11 +1,11 @@
 // The lengths of the held deltas: the oldest is dropped if n equals keep, and one is added.
-use crate::state::History;
 use crate::well_formed::wide;
+use past::state::History;
 use serial::next;
 ghost use mathlib.Core.Path.{_≡_};
 ghost use Prim.Native.Nat.{_-_, _^_, _<_, _≤_};
 ghost use lib.ListN.{length};
-ghost use Rattle.history.specs.Store.{total};
+ghost use Rattle.past.specs.Store.{total};
 ghost use Rattle.history.specs.Push.{between, dropsOf, keptOf, lengthsWith, Ranged, Grows};
 
 // The deltas that stay once one is added.

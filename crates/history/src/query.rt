@@ -1,12 +1,14 @@
 // The query of a serial.
 use crate::merged::merged_last;
-use crate::state::History;
 use crate::well_formed::well_formed;
 use crate::well_formed::wide;
 use delta::admit::Admitted;
 use delta::refusal::Refusal;
 use delta::sink::Counts;
 use delta::walk::Output;
+use past::query::Answer;
+use past::query::Queried;
+use past::state::History;
 use serial::Serial;
 use serial::Session;
 use serial::distance;
@@ -16,21 +18,9 @@ ghost use Prim.Native.Nat.{_≤_};
 ghost use lib.ListN.{length};
 ghost use Rattle.delta.specs.declared.admit.Admitted.the-variants.{Yes};
 ghost use Rattle.delta.specs.Answer.{outAfter};
-ghost use Rattle.history.specs.Store.{heldDeltas};
+ghost use Rattle.past.specs.Store.{heldDeltas};
 ghost use Rattle.history.specs.Place.{Stored};
-ghost use Rattle.history.specs.Query.{isServed, isSession, queryAdmitted, mergedLast, refusedWith, queryAt, queryOf, queryOut};
-
-pub enum Answer {
-    Refused(Refusal),
-    // The delta that was written.
-    Served(Counts),
-}
-
-pub struct Queried {
-    pub session: Session,
-    pub serial: Serial,
-    pub answer: Answer,
-}
+ghost use Rattle.past.specs.Query.{isServed, isSession, queryAdmitted, mergedLast, refusedWith, queryAt, queryOf, queryOut};
 
 // A refused query: other numbers 0.
 fn refused(refusal: Refusal) -> Queried

@@ -9,7 +9,7 @@ ghost use mathlib.Core.List.{_++_};
 ghost use Prim.Native.Nat.{_+_, _≤_};
 ghost use lib.ListN.{length, take, drop};
 ghost use Rattle.delta.specs.Answer.{differenceOf};
-ghost use Rattle.history.specs.Store.{storeAfter};
+ghost use Rattle.past.specs.Store.{storeAfter};
 ghost use Rattle.history.specs.Push.{Pushes, laid};
 
 // The len bytes at from go to the start; the bytes past them stay.

@@ -3,7 +3,6 @@ use crate::push::Kept;
 use crate::push::grown;
 use crate::push::kept_of;
 use crate::push::narrow;
-use crate::state::History;
 use crate::stores::hold;
 use crate::stores::push_delta;
 use crate::well_formed::well_formed;
@@ -15,27 +14,16 @@ use delta::refusal::Refusal;
 use delta::sink::Counts;
 use delta::walk::measure;
 use field::tag::Form;
+use past::state::History;
+use past::update::Update;
+use past::update::Updated;
 ghost use mathlib.Core.Path.{_≡_};
 ghost use Prim.Native.Nat.{_≤_};
 ghost use lib.ListN.{length};
 ghost use Rattle.delta.specs.Answer.{differenceOf, countsOf};
-ghost use Rattle.history.specs.Store.{heldSnapshot};
-ghost use Rattle.history.specs.Update.{updateOf, updateSnapshots, updateDeltas};
+ghost use Rattle.past.specs.Store.{heldSnapshot};
+ghost use Rattle.past.specs.Update.{updateOf, updateSnapshots, updateDeltas};
 ghost use Rattle.history.specs.Push.{Judged, Compares, Accepts, Renews, Extends, Does, Stores, firstOf, firstStore};
-
-pub enum Update {
-    // The first snapshot is current; the serial stays 0.
-    First,
-    Unchanged,
-    // The delta that was added.
-    Changed(Counts),
-    Refused(Refusal),
-}
-
-pub struct Updated {
-    pub answer: Update,
-    pub history: History,
-}
 
 // Refusal 7, then 10, 1 and 2 of the new snapshot.
 fn admitted(history: History, new: &[u8], snapshots: &[u8], deltas: &[u8]) -> Admitted

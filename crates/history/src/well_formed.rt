@@ -1,13 +1,13 @@
 // Whether a history, lent with its stores, is well formed: all others get refusal 7.
-use crate::state::History;
 use delta::admit::within_limit;
 use field::tag::Form;
 use field::verdict::Verdict;
 use field::verdict::check;
+use past::state::History;
 ghost use mathlib.Core.Path.{_≡_};
 ghost use Prim.Native.Nat.{_^_, _<_, _≤_};
 ghost use lib.ListN.{take};
-ghost use Rattle.history.specs.WellFormed.{isGood, goodKeep, inRange, goodSerial, goodStart, wellFormed};
+ghost use Rattle.past.specs.WellFormed.{isGood, goodKeep, inRange, goodSerial, goodStart, wellFormed};
 ghost use Rattle.history.specs.Check.{goodState, goodSnapshot, goodRuns, goodDeltas};
 
 // A held length as a place in a store.

@@ -2,7 +2,7 @@
 use Prim.Native.Nat.{ℕ}
 use mathlib.Core.Bool.{Bool, not, cond}
 use lib.Dec.{eqb}
-use Rattle.history.specs.declared.state.History.{History}
+use Rattle.past.specs.declared.state.History.{History}
 use Rattle.host.specs.declared.state.State.{State}
 
 -- active is 0 for inactive, any other number for active

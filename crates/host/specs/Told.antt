@@ -2,18 +2,18 @@
 use Prim.Native.Nat.{ℕ}
 use Rattle.serial.specs.declared.Serial.{Serial}
 use Rattle.delta.specs.declared.sink.Counts.{Counts}
-use Rattle.history.specs.declared.create.Creation.{Creation}
-use Rattle.history.specs.declared.create.Creation.the-variants as creation
-use Rattle.history.specs.declared.create.Created.{Created}
-use Rattle.history.specs.declared.update.Update.{Update}
-use Rattle.history.specs.declared.update.Update.the-variants as update
-use Rattle.history.specs.declared.update.Updated.{Updated}
-use Rattle.history.specs.declared.query.Answer as query
-use Rattle.history.specs.declared.query.Answer.the-variants as answer
-use Rattle.history.specs.declared.query.Queried.{Queried}
-use Rattle.history.specs.declared.full.FullAnswer.{FullAnswer}
-use Rattle.history.specs.declared.full.FullAnswer.the-variants as full
-use Rattle.history.specs.declared.full.Full.{Full}
+use Rattle.past.specs.declared.create.Creation.{Creation}
+use Rattle.past.specs.declared.create.Creation.the-variants as creation
+use Rattle.past.specs.declared.create.Created.{Created}
+use Rattle.past.specs.declared.update.Update.{Update}
+use Rattle.past.specs.declared.update.Update.the-variants as update
+use Rattle.past.specs.declared.update.Updated.{Updated}
+use Rattle.past.specs.declared.query.Answer as query
+use Rattle.past.specs.declared.query.Answer.the-variants as answer
+use Rattle.past.specs.declared.query.Queried.{Queried}
+use Rattle.past.specs.declared.full.FullAnswer.{FullAnswer}
+use Rattle.past.specs.declared.full.FullAnswer.the-variants as full
+use Rattle.past.specs.declared.full.Full.{Full}
 use Rattle.host.specs.declared.answer.Answer.{Answer}
 use Rattle.host.specs.declared.state.State.{State}
 use Rattle.host.specs.declared.told.Made.{Made}

@@ -1,5 +1,5 @@
 // The state of a history as the host keeps it.
-use history::state::History;
+use past::state::History;
 use serial::Serial;
 ghost use mathlib.Core.Path.{_≡_};
 ghost use Rattle.host.specs.State.{historyOf, markOf, stateOf};

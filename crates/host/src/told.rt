@@ -5,13 +5,13 @@ use crate::answer::refused_as;
 use crate::answer::wrote_as;
 use crate::state::State;
 use crate::state::state_of;
-use history::create::Created;
-use history::create::Creation;
-use history::full::Full;
-use history::full::FullAnswer;
-use history::query::Queried;
-use history::update::Update;
-use history::update::Updated;
+use past::create::Created;
+use past::create::Creation;
+use past::full::Full;
+use past::full::FullAnswer;
+use past::query::Queried;
+use past::update::Update;
+use past::update::Updated;
 use serial::Serial;
 use serial::Session;
 ghost use mathlib.Core.Path.{_≡_};
@@ -85,12 +85,12 @@ pub fn updated_as(given: State, updated: Updated) -> Made
     Made { answer, state }
 }
 
-fn query_as(a: history::query::Answer, serial: Serial) -> Answer
+fn query_as(a: past::query::Answer, serial: Serial) -> Answer
     ensures { λ r. ⌜ r ≡ flatQuery a serial ⌝ }
 {
     match a {
-        history::query::Answer::Served(counts) => wrote_as(1, serial, counts),
-        history::query::Answer::Refused(r) => refused_as(r),
+        past::query::Answer::Served(counts) => wrote_as(1, serial, counts),
+        past::query::Answer::Refused(r) => refused_as(r),
     }
 }
 

@@ -18,12 +18,12 @@ use Rattle.delta.specs.declared.admit.Admitted.{Admitted}
 use Rattle.delta.specs.declared.sink.Counts.{Counts}
 use Rattle.delta.specs.Admission.{andThen}
 use Rattle.delta.specs.Answer.{countsOf, outAfter}
-use Rattle.history.specs.declared.state.History.{History}
-use Rattle.history.specs.declared.query.Answer.{Answer}
-use Rattle.history.specs.declared.query.Answer.the-variants.{Refused, Served}
-use Rattle.history.specs.declared.query.Queried.{Queried}
-use Rattle.history.specs.WellFormed.{wellFormed}
-use Rattle.history.specs.Query.{isServed, isSession, passes, answerOf, refusedWith, servedWith, queryAt, queryOf, queryOut}
+use Rattle.past.specs.declared.state.History.{History}
+use Rattle.past.specs.declared.query.Answer.{Answer}
+use Rattle.past.specs.declared.query.Answer.the-variants.{Refused, Served}
+use Rattle.past.specs.declared.query.Queried.{Queried}
+use Rattle.past.specs.WellFormed.{wellFormed}
+use Rattle.past.specs.Query.{isServed, isSession, passes, answerOf, refusedWith, servedWith, queryAt, queryOf, queryOut}
 
 -- the answer by the outcome of the four tests, in the order of their refusals: 7, 5, 6, 4
 abbrev answerBy : Bool → Bool → Bool → Bool → Counts → Answer

@@ -21,11 +21,11 @@ use Rattle.delta.specs.declared.admit.Admitted.{Admitted}
 use Rattle.delta.specs.declared.admit.Admitted.the-variants.{Yes, No}
 use Rattle.delta.specs.Admission.{refusalOf, andThen, admitOneOf}
 use Rattle.delta.specs.Answer.{differenceOf}
-use Rattle.history.specs.declared.state.History.{History}
-use Rattle.history.specs.declared.update.Update.the-variants.{Refused}
-use Rattle.history.specs.Store.{total, heldSnapshot}
-use Rattle.history.specs.WellFormed.{wellFormed}
-use Rattle.history.specs.Update.{Step, refuse, first, unchanged, add, deltasWith, admittedStep, stepFor, updateAt, updateOf}
+use Rattle.past.specs.declared.state.History.{History}
+use Rattle.past.specs.declared.update.Update.the-variants.{Refused}
+use Rattle.past.specs.Store.{total, heldSnapshot}
+use Rattle.past.specs.WellFormed.{wellFormed}
+use Rattle.past.specs.Update.{Step, refuse, first, unchanged, add, deltasWith, admittedStep, stepFor, updateAt, updateOf}
 
 -- two steps or answers that differ: from them anything follows
 never : {X : Type 0} → _≡_ {A = ℕ} 0 1 → X

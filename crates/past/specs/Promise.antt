@@ -20,15 +20,15 @@ use Rattle.delta.specs.declared.fit.Fit.the-variants.{All}
 use Rattle.delta.specs.declared.sink.Counts.{Counts}
 use Rattle.delta.specs.Fit.{fitOf}
 use Rattle.delta.specs.Answer.{differenceOf, appliedOf, countsOf}
-use Rattle.history.specs.declared.update.Update.the-variants.{Unchanged}
-use Rattle.history.specs.declared.query.Answer.the-variants.{Refused, Served}
-use Rattle.history.specs.declared.query.Queried.{Queried}
-use Rattle.history.specs.declared.full.FullAnswer.the-variants.{Held}
-use Rattle.history.specs.Store.{heldSnapshot}
-use Rattle.history.specs.WellFormed.{wellFormed}
-use Rattle.history.specs.Query.{queryOf, queryOut}
-use Rattle.history.specs.Full.{fullOf}
-use Rattle.history.specs.Run.{World, Call, update, query, full, updated, replyOf, refused, Run, carried}
+use Rattle.past.specs.declared.update.Update.the-variants.{Unchanged}
+use Rattle.past.specs.declared.query.Answer.the-variants.{Refused, Served}
+use Rattle.past.specs.declared.query.Queried.{Queried}
+use Rattle.past.specs.declared.full.FullAnswer.the-variants.{Held}
+use Rattle.past.specs.Store.{heldSnapshot}
+use Rattle.past.specs.WellFormed.{wellFormed}
+use Rattle.past.specs.Query.{queryOf, queryOut}
+use Rattle.past.specs.Full.{fullOf}
+use Rattle.past.specs.Run.{World, Call, update, query, full, updated, replyOf, refused, Run, carried}
 
 -- the new snapshot of an update is a list of bytes, good or not; of other calls nothing is asked
 abbrev pub OfBytes : Call → Type 0

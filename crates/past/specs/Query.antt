@@ -19,11 +19,11 @@ use Rattle.delta.specs.declared.admit.Admitted.{Admitted}
 use Rattle.delta.specs.declared.admit.Admitted.the-variants.{Yes, No}
 use Rattle.delta.specs.Admission.{andThen}
 use Rattle.delta.specs.Answer.{countsOf, outAfter}
-use Rattle.history.specs.declared.state.History.{History}
-use Rattle.history.specs.declared.query.Answer.the-variants.{Refused, Served}
-use Rattle.history.specs.declared.query.Queried.{Queried}
-use Rattle.history.specs.Store.{heldDeltas}
-use Rattle.history.specs.WellFormed.{wellFormed}
+use Rattle.past.specs.declared.state.History.{History}
+use Rattle.past.specs.declared.query.Answer.the-variants.{Refused, Served}
+use Rattle.past.specs.declared.query.Queried.{Queried}
+use Rattle.past.specs.Store.{heldDeltas}
+use Rattle.past.specs.WellFormed.{wellFormed}
 
 -- with n deltas, is a serial served that is d steps before the newest: with n = 0 only the serial 0 is,
 -- with n above 0 d = 0, d = 1, and d from 2 to n - 1

@@ -16,16 +16,16 @@ use Rattle.payload.specs.Content.{Bytes}
 use Rattle.payload.specs.Payload.{entries, encode}
 use Rattle.delta.specs.declared.refusal.Refusal.the-variants.{BadKeep, StoreFull, Bad, OtherSession}
 use Rattle.delta.specs.Answer.{differenceOf, countsOf}
-use Rattle.history.specs.declared.state.History.{History}
-use Rattle.history.specs.declared.create.Creation.the-variants as creation
-use Rattle.history.specs.declared.update.Update.the-variants.{First, Unchanged, Changed, Refused}
-use Rattle.history.specs.Store.{lengthsOf}
-use Rattle.history.specs.WellFormed.{wellFormed}
-use Rattle.history.specs.Create.{freshOf, createOf}
-use Rattle.history.specs.Update.{stepFor, updateOf, updateSnapshots, updateDeltas}
-use Rattle.history.specs.Query.{mergedLast, refusedWith, servedWith, queryOf}
-use Rattle.history.specs.Run.{World, Call, update, updated, replyOf, Run, startOf, runOf}
-use Rattle.history.specs.Marked.{p, q, held, delta1, delta2, delta3}
+use Rattle.past.specs.declared.state.History.{History}
+use Rattle.past.specs.declared.create.Creation.the-variants as creation
+use Rattle.past.specs.declared.update.Update.the-variants.{First, Unchanged, Changed, Refused}
+use Rattle.past.specs.Store.{lengthsOf}
+use Rattle.past.specs.WellFormed.{wellFormed}
+use Rattle.past.specs.Create.{freshOf, createOf}
+use Rattle.past.specs.Update.{stepFor, updateOf, updateSnapshots, updateDeltas}
+use Rattle.past.specs.Query.{mergedLast, refusedWith, servedWith, queryOf}
+use Rattle.past.specs.Run.{World, Call, update, updated, replyOf, Run, startOf, runOf}
+use Rattle.past.specs.Marked.{p, q, held, delta1, delta2, delta3}
 
 -- a history as it stands with these deltas
 abbrev state : ℕ → ℕ → ℕ → List Bytes → History

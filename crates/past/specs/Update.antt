@@ -13,11 +13,11 @@ use Rattle.delta.specs.declared.admit.Admitted.{Admitted}
 use Rattle.delta.specs.declared.admit.Admitted.the-variants.{Yes, No}
 use Rattle.delta.specs.Admission.{admitOneOf}
 use Rattle.delta.specs.Answer.{differenceOf, countsOf}
-use Rattle.history.specs.declared.state.History.{History}
-use Rattle.history.specs.declared.update.Update.the-variants.{First, Unchanged, Changed, Refused}
-use Rattle.history.specs.declared.update.Updated.{Updated}
-use Rattle.history.specs.Store.{total, joined, heldSnapshot, heldDeltas, lengthsOf, storeAfter}
-use Rattle.history.specs.WellFormed.{wellFormed}
+use Rattle.past.specs.declared.state.History.{History}
+use Rattle.past.specs.declared.update.Update.the-variants.{First, Unchanged, Changed, Refused}
+use Rattle.past.specs.declared.update.Updated.{Updated}
+use Rattle.past.specs.Store.{total, joined, heldSnapshot, heldDeltas, lengthsOf, storeAfter}
+use Rattle.past.specs.WellFormed.{wellFormed}
 
 -- what an update does: it is refused, is the first, changes nothing, or adds a delta
 pub data Step : Type 0 where

@@ -3,7 +3,7 @@ use Prim.Native.Nat.{ℕ, _+_, _-_}
 use mathlib.Core.List.{List, [], _∷_, _++_, map}
 use lib.ListN.{length, take, drop, replicate}
 use Rattle.payload.specs.Content.{Bytes}
-use Rattle.history.specs.declared.state.History.{History}
+use Rattle.past.specs.declared.state.History.{History}
 
 -- the sum of lengths
 abbrev pub total : List ℕ → ℕ

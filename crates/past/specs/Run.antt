@@ -10,19 +10,19 @@ use Rattle.serial.specs.declared.Session.{Session}
 use Rattle.serial.specs.Serial.{nextOf}
 use Rattle.payload.specs.Content.{Bytes}
 use Rattle.delta.specs.declared.refusal.Refusal.{Refusal}
-use Rattle.history.specs.declared.state.History.{History}
-use Rattle.history.specs.declared.update.Update.{Update}
-use Rattle.history.specs.declared.update.Update.the-variants as updates
-use Rattle.history.specs.declared.query.Answer.{Answer}
-use Rattle.history.specs.declared.query.Answer.the-variants as answers
-use Rattle.history.specs.declared.query.Queried.{Queried}
-use Rattle.history.specs.declared.full.Full.{Full}
-use Rattle.history.specs.declared.full.FullAnswer.{FullAnswer}
-use Rattle.history.specs.declared.full.FullAnswer.the-variants as fulls
-use Rattle.history.specs.Create.{createOf}
-use Rattle.history.specs.Update.{updateOf, updateSnapshots, updateDeltas}
-use Rattle.history.specs.Query.{queryOf, queryOut}
-use Rattle.history.specs.Full.{fullOf}
+use Rattle.past.specs.declared.state.History.{History}
+use Rattle.past.specs.declared.update.Update.{Update}
+use Rattle.past.specs.declared.update.Update.the-variants as updates
+use Rattle.past.specs.declared.query.Answer.{Answer}
+use Rattle.past.specs.declared.query.Answer.the-variants as answers
+use Rattle.past.specs.declared.query.Queried.{Queried}
+use Rattle.past.specs.declared.full.Full.{Full}
+use Rattle.past.specs.declared.full.FullAnswer.{FullAnswer}
+use Rattle.past.specs.declared.full.FullAnswer.the-variants as fulls
+use Rattle.past.specs.Create.{createOf}
+use Rattle.past.specs.Update.{updateOf, updateSnapshots, updateDeltas}
+use Rattle.past.specs.Query.{queryOf, queryOut}
+use Rattle.past.specs.Full.{fullOf}
 
 -- a history and its two stores
 pub record World : Type 0 where

@@ -35,26 +35,26 @@ use Rattle.delta.specs.declared.admit.Admitted.the-variants.{Yes, No}
 use Rattle.delta.specs.declared.sink.Counts.{Counts}
 use Rattle.delta.specs.Admission.{andThen}
 use Rattle.delta.specs.Answer.{differenceOf, countsOf}
-use Rattle.history.specs.declared.create.Creation.the-variants.{Done, Refused}
-use Rattle.history.specs.declared.update.Update.the-variants.{Unchanged}
-use Rattle.history.specs.declared.query.Answer.{Answer}
-use Rattle.history.specs.declared.query.Answer.the-variants as answers
-use Rattle.history.specs.declared.query.Queried.{Queried}
-use Rattle.history.specs.declared.full.FullAnswer.the-variants.{Held}
-use Rattle.history.specs.Store.{heldDeltas}
-use Rattle.history.specs.WellFormed.{goodKeep, wellFormed}
-use Rattle.history.specs.Create.{freshOf, createAt, createOf}
-use Rattle.history.specs.Update.{Step, refuse, first, unchanged, add, stepFor, updateAt, updateOf, snapshotsAt, updateSnapshots, deltasAt, updateDeltas}
-use Rattle.history.specs.Query.{isServed, isSession, mergedLast, answerOf, servedWith}
-use Rattle.history.specs.Full.{fullOf}
-use Rattle.history.specs.Run.{World, Call, update, query, full, updated, replyOf, stepOf, refusedUpdate, refusedAnswer, refused, Run, startOf, runOf}
-use Rattle.history.specs.Promise.{OfBytes, changesIn, serialIn, Rule, Leads, current, outputOf, asks, Promise}
-use Rattle.history.proofs.Lists.{map-lastN, map-newest, map-nth, all-map}
+use Rattle.past.specs.declared.create.Creation.the-variants.{Done, Refused}
+use Rattle.past.specs.declared.update.Update.the-variants.{Unchanged}
+use Rattle.past.specs.declared.query.Answer.{Answer}
+use Rattle.past.specs.declared.query.Answer.the-variants as answers
+use Rattle.past.specs.declared.query.Queried.{Queried}
+use Rattle.past.specs.declared.full.FullAnswer.the-variants.{Held}
+use Rattle.past.specs.Store.{heldDeltas}
+use Rattle.past.specs.WellFormed.{goodKeep, wellFormed}
+use Rattle.past.specs.Create.{freshOf, createAt, createOf}
+use Rattle.past.specs.Update.{Step, refuse, first, unchanged, add, stepFor, updateAt, updateOf, snapshotsAt, updateSnapshots, deltasAt, updateDeltas}
+use Rattle.past.specs.Query.{isServed, isSession, mergedLast, answerOf, servedWith}
+use Rattle.past.specs.Full.{fullOf}
+use Rattle.past.specs.Run.{World, Call, update, query, full, updated, replyOf, stepOf, refusedUpdate, refusedAnswer, refused, Run, startOf, runOf}
+use Rattle.past.specs.Promise.{OfBytes, changesIn, serialIn, Rule, Leads, current, outputOf, asks, Promise}
+use Rattle.past.proofs.Lists.{map-lastN, map-newest, map-nth, all-map}
 use Rattle.delta.proofs.Differences.{Good, good-map, difference-applies, difference-fits, difference-yields, difference-empty, difference-self}
-use Rattle.history.proofs.Served.{served-rule, rule-served, rule-within, carried-back}
-use Rattle.history.proofs.Steps.{fine-admitted, step-seven, step-unchanged, unchanged-step}
-use Rattle.history.proofs.Invariant.{Frame, Holds, Waits, Inv, holds-count, holds-zero, holds-formed, inv-formed, call-inv}
-use Rattle.history.proofs.Queries as queries
+use Rattle.past.proofs.Served.{served-rule, rule-served, rule-within, carried-back}
+use Rattle.past.proofs.Steps.{fine-admitted, step-seven, step-unchanged, unchanged-step}
+use Rattle.past.proofs.Invariant.{Frame, Holds, Waits, Inv, holds-count, holds-zero, holds-formed, inv-formed, call-inv}
+use Rattle.past.proofs.Queries as queries
 
 -- ---- refused calls, of any world
 

@@ -10,9 +10,9 @@ use Rattle.field.specs.Cells.{cellsF, cells, field}
 use Rattle.field.specs.Cells as run
 use Rattle.payload.specs.Payload.{entries, encode}
 use Rattle.delta.specs.Answer.{differenceOf, mergedOf, constructOf, mergeOf, mergeOut}
-use Rattle.history.specs.WellFormed.{wellFormed}
-use Rattle.history.specs.Query.{mergedLast, queryOf, queryOut}
-use Rattle.history.specs.Marked.{Marked}
+use Rattle.past.specs.WellFormed.{wellFormed}
+use Rattle.past.specs.Query.{mergedLast, queryOf, queryOut}
+use Rattle.past.specs.Marked.{Marked}
 
 -- K1 to K11
 pub marked : Marked

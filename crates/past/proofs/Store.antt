@@ -6,9 +6,9 @@ use native.Mathlib.Omega.{arith}
 use lib.ListN.{length, drop, replicate, length-append, length-drop, length-map}
 use lib.Seq.{take-at, take-append-seam, drop-append-seam}
 use Rattle.payload.specs.Content.{Bytes}
-use Rattle.history.specs.declared.state.History.{History}
-use Rattle.history.specs.Store.{total, cuts, joined, heldLengths, heldDeltas, storeAfter}
-use Rattle.history.specs.Update.{nextState}
+use Rattle.past.specs.declared.state.History.{History}
+use Rattle.past.specs.Store.{total, cuts, joined, heldLengths, heldDeltas, storeAfter}
+use Rattle.past.specs.Update.{nextState}
 
 pub cuts-joined : (ds : List Bytes) (s : Bytes) → cuts (map length ds) (joined ds ++ s) ≡ ds
 cuts-joined [] s = refl

@@ -13,11 +13,11 @@ use Rattle.delta.specs.declared.construct.Constructed.the-variants.{NoChange}
 use Rattle.delta.specs.declared.merge.Merged.{Merged}
 use Rattle.delta.specs.declared.merge.Merged.the-variants as merged
 use Rattle.delta.specs.Answer.{mergedOf, countsOf, constructOf, mergeOf, mergeOut}
-use Rattle.history.specs.declared.state.History.{History}
-use Rattle.history.specs.declared.query.Answer.the-variants.{Refused, Served}
-use Rattle.history.specs.declared.query.Queried.{Queried}
-use Rattle.history.specs.Store.{joined, lengthsOf, storeAfter}
-use Rattle.history.specs.Query.{queryOf, queryOut}
+use Rattle.past.specs.declared.state.History.{History}
+use Rattle.past.specs.declared.query.Answer.the-variants.{Refused, Served}
+use Rattle.past.specs.declared.query.Queried.{Queried}
+use Rattle.past.specs.Store.{joined, lengthsOf, storeAfter}
+use Rattle.past.specs.Query.{queryOf, queryOut}
 
 abbrev pub serial : ℕ → Serial
 serial n = record { 0 = n }

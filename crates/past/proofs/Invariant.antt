@@ -23,15 +23,15 @@ use Rattle.payload.specs.Content.{Bytes}
 use Rattle.payload.specs.Payload.{items, changes}
 use Rattle.payload.specs.Limit.{limit}
 use Rattle.delta.specs.Answer.{differenceOf}
-use Rattle.history.specs.Store.{total, joined, heldSnapshot, heldLengths, heldDeltas, storeAfter}
-use Rattle.history.specs.WellFormed.{isGood, every, goodKeep, goodSerial, goodStart, wellFormed}
-use Rattle.history.specs.Update.{Step, refuse, first, unchanged, add, deltasWith, nextState, stepFor, updateAt, updateOf, snapshotsAt, updateSnapshots, deltasAt, updateDeltas}
-use Rattle.history.specs.Run.{World, Call, update, query, full, stepOf, givenBy, givenAfter}
-use Rattle.history.specs.Promise.{OfBytes}
-use Rattle.history.proofs.Lists.{lastN-length, pushed-last, newest-push, all-push, all-pushed, map-push, map-pushed, map-newest}
-use Rattle.history.proofs.Store.{joined-length, store-length, next-lengths, next-deltas}
+use Rattle.past.specs.Store.{total, joined, heldSnapshot, heldLengths, heldDeltas, storeAfter}
+use Rattle.past.specs.WellFormed.{isGood, every, goodKeep, goodSerial, goodStart, wellFormed}
+use Rattle.past.specs.Update.{Step, refuse, first, unchanged, add, deltasWith, nextState, stepFor, updateAt, updateOf, snapshotsAt, updateSnapshots, deltasAt, updateDeltas}
+use Rattle.past.specs.Run.{World, Call, update, query, full, stepOf, givenBy, givenAfter}
+use Rattle.past.specs.Promise.{OfBytes}
+use Rattle.past.proofs.Lists.{lastN-length, pushed-last, newest-push, all-push, all-pushed, map-push, map-pushed, map-newest}
+use Rattle.past.proofs.Store.{joined-length, store-length, next-lengths, next-deltas}
 use Rattle.delta.proofs.Differences.{Good, difference-fine, difference-says}
-use Rattle.history.proofs.Steps.{Adds, Begins, step-add, step-first}
+use Rattle.past.proofs.Steps.{Adds, Begins, step-add, step-first}
 
 -- what no call changes: the session and keep of the creation, and stores within their limits
 pub record Frame (session keep : ℕ) (w : World) : Type 0 where

@@ -10,7 +10,7 @@ use borrow.Author.Tests.{eqb-true, eqb-false}
 use Rattle.order.specs.Map.{All}
 use Rattle.change.specs.History.{lastN, newest, nth}
 use Rattle.change.proofs.History.{push-room, push-full}
-use Rattle.history.specs.Update.{pushed}
+use Rattle.past.specs.Update.{pushed}
 
 module _ {A : Type 0} where
   pub lastN-length : (n : ℕ) (l : List A) → length (lastN n l) ≡ min n (length l)

@@ -8,11 +8,11 @@ use Rattle.delta.specs.declared.refusal.Refusal.the-variants.{BadKeep}
 use Rattle.delta.specs.declared.admit.Admitted.{Admitted}
 use Rattle.delta.specs.declared.admit.Admitted.the-variants.{Yes, No}
 use Rattle.delta.specs.Admission.{andThen, limitOf}
-use Rattle.history.specs.declared.state.History.{History}
-use Rattle.history.specs.declared.create.Creation.the-variants.{Done, Refused}
-use Rattle.history.specs.declared.create.Created.{Created}
-use Rattle.history.specs.Store.{lengthsOf}
-use Rattle.history.specs.WellFormed.{goodKeep}
+use Rattle.past.specs.declared.state.History.{History}
+use Rattle.past.specs.declared.create.Creation.the-variants.{Done, Refused}
+use Rattle.past.specs.declared.create.Created.{Created}
+use Rattle.past.specs.Store.{lengthsOf}
+use Rattle.past.specs.WellFormed.{goodKeep}
 
 -- inactive, n = 0, F = 0, nothing held
 abbrev pub freshOf : ℕ → ℕ → History

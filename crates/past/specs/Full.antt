@@ -3,11 +3,11 @@ use mathlib.Core.Bool.{Bool, cond}
 use Rattle.serial.specs.Serial.{sessionOf}
 use Rattle.payload.specs.Content.{Bytes}
 use Rattle.delta.specs.declared.refusal.Refusal.the-variants.{IllFormed}
-use Rattle.history.specs.declared.state.History.{History}
-use Rattle.history.specs.declared.full.FullAnswer.the-variants.{Refused, Held}
-use Rattle.history.specs.declared.full.Full.{Full}
-use Rattle.history.specs.declared.notify.Notice.{Notice}
-use Rattle.history.specs.WellFormed.{wellFormed}
+use Rattle.past.specs.declared.state.History.{History}
+use Rattle.past.specs.declared.full.FullAnswer.the-variants.{Refused, Held}
+use Rattle.past.specs.declared.full.Full.{Full}
+use Rattle.past.specs.declared.notify.Notice.{Notice}
+use Rattle.past.specs.WellFormed.{wellFormed}
 
 -- the 16-bit session, F and the length of the held snapshot, which is empty while inactive; refusal 7 alone
 unfoldable pub fullOf : History → Bytes → Bytes → Full

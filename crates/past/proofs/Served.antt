@@ -12,9 +12,9 @@ use Rattle.change.specs.History.{nth}
 use Rattle.serial.specs.declared.Serial.{Serial}
 use Rattle.serial.specs.Serial.{nextOf, distanceOf}
 use Rattle.payload.specs.Content.{Bytes}
-use Rattle.history.specs.Query.{isServed}
-use Rattle.history.specs.Promise.{Rule, none-held, newest-held, one-before, more-before}
-use Rattle.history.specs.Run.{carriedFrom, carried}
+use Rattle.past.specs.Query.{isServed}
+use Rattle.past.specs.Promise.{Rule, none-held, newest-held, one-before, more-before}
+use Rattle.past.specs.Run.{carriedFrom, carried}
 
 no : {X : Type 0} → false ≡ true → X
 no e = absurd (let z : _≡_ {A = ℕ} 0 1 = cc in omega arith)

@@ -11,8 +11,8 @@ use Rattle.field.specs.declared.verdict.Verdict.the-variants as verdict
 use Rattle.field.specs.Verdict.{verdict}
 use Rattle.payload.specs.Content.{Bytes}
 use Rattle.payload.specs.Limit.{limit}
-use Rattle.history.specs.declared.state.History.{History}
-use Rattle.history.specs.Store.{total, heldSnapshot, heldLengths, heldDeltas}
+use Rattle.past.specs.declared.state.History.{History}
+use Rattle.past.specs.Store.{total, heldSnapshot, heldLengths, heldDeltas}
 
 abbrev pub isFine : Verdict → Bool
 isFine verdict.Fine = true

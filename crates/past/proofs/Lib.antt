@@ -1,0 +1,9 @@
+pub mod Lists
+pub mod Store
+pub mod Served
+pub mod Steps
+pub mod Invariant
+pub mod Queries
+pub mod Runs
+pub mod Marked
+pub mod Examples

@@ -1,0 +1,9 @@
+pub mod Store
+pub mod WellFormed
+pub mod Create
+pub mod Update
+pub mod Query
+pub mod Full
+pub mod Run
+pub mod Promise
+pub mod Marked

@@ -1,0 +1,18 @@
+// The answer of an update.
+use crate::state::History;
+use delta::refusal::Refusal;
+use delta::sink::Counts;
+
+pub enum Update {
+    // The first snapshot is current; the serial stays 0.
+    First,
+    Unchanged,
+    // The delta that was added.
+    Changed(Counts),
+    Refused(Refusal),
+}
+
+pub struct Updated {
+    pub answer: Update,
+    pub history: History,
+}
