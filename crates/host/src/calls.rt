@@ -10,6 +10,7 @@ use crate::told::Told;
 use crate::told::created_as;
 use crate::told::queried_as;
 use crate::told::told_full;
+use crate::told::updated_as;
 use delta::apply::apply;
 use delta::construct::construct;
 use delta::merge::merge;
@@ -18,6 +19,7 @@ use history::full::full_answer;
 use history::notify::notify;
 use history::notify::ready;
 use history::query::query;
+use history::update::update_with;
 use past::notify::Notice;
 use serial::Serial;
 use serial::Session;
@@ -29,9 +31,10 @@ ghost use Rattle.serial.specs.Timing.{timingOf};
 ghost use Rattle.delta.specs.Answer.{constructOf, constructOut, mergeOf, mergeOut, applyOf, applyOut};
 ghost use Rattle.past.specs.Create.{createOf};
 ghost use Rattle.past.specs.Query.{queryOf, queryOut};
+ghost use Rattle.past.specs.Update.{updateOf, updateSnapshots, updateDeltas};
 ghost use Rattle.past.specs.Full.{fullOf, notifyOf, readyOf};
 ghost use Rattle.host.specs.State.{historyOf};
-ghost use Rattle.host.specs.Told.{madeCreated, toldQueried, toldFull};
+ghost use Rattle.host.specs.Told.{madeCreated, madeUpdated, toldQueried, toldFull};
 ghost use Rattle.host.specs.Flat.{flatConstructed, flatMerged, flatApplied};
 
 #[no_mangle]
@@ -81,6 +84,19 @@ pub extern "C" fn taplevung_create(session: u64, keep: u32, snapshots: &[u8], de
     ensures { λ r. ⌜ r ≡ madeCreated (createOf session keep (now (snapshots .entry)) (now (deltas .entry))) ⌝ }
 {
     created_as(create(session, keep, snapshots, deltas))
+}
+
+#[no_mangle]
+pub extern "C" fn taplevung_update(
+    state: State,
+    new: &[u8],
+    snapshots: &mut [u8],
+    deltas: &mut [u8],
+) -> Made
+    ensures { λ r. ⌜ (r ≡ madeUpdated state (updateOf (historyOf state) (now (new .entry)) (now (snapshots .entry)) (now (deltas .entry)))) × ((now (snapshots .exit) ≡ updateSnapshots (historyOf state) (now (new .entry)) (now (snapshots .entry)) (now (deltas .entry))) × (now (deltas .exit) ≡ updateDeltas (historyOf state) (now (new .entry)) (now (snapshots .entry)) (now (deltas .entry)))) ⌝ }
+{
+    let h = history_of(state);
+    updated_as(state, update_with(h, new, snapshots, deltas))
 }
 
 #[no_mangle]
