@@ -43,6 +43,15 @@ impl Universe {
         Universe { keys, providers: vec![0, 1, 64497, 64498, u32::MAX] }
     }
 
+    /// Some of the fixed keys.
+    pub fn few(rng: &mut Rng, count: usize) -> Self {
+        let mut universe = Self::fixed();
+        while universe.keys.len() > count {
+            universe.keys.remove(rng.below(universe.keys.len()));
+        }
+        universe
+    }
+
     /// Keys at random, many of them close to each other.
     fn random(rng: &mut Rng) -> Self {
         let numbers: Vec<u32> = (0..6).map(|_| number(rng)).collect();
