@@ -10,7 +10,8 @@ use rpki::rtr::payload::{Aspa, PayloadRef, RouteOrigin, RouterKey};
 use rpki::rtr::pdu::ProviderAsns;
 use rpki::rtr::server::{PayloadDiff, PayloadSet, PayloadSource};
 use rpki::rtr::state::{State, ZERO};
-use rpki::rtr::{Action, Serial};
+use rpki::rtr::Action;
+pub use rpki::rtr::Serial;
 
 use crate::config::{Config, FilterPolicy};
 use crate::field::{fields, put, split_update};
@@ -81,12 +82,22 @@ impl History {
 
     /// Whether the Rust says that there is a new version.
     pub fn update(&self, new: &[u8]) -> bool {
-        self.0.update(ValidationReport(snapshot(new)), &LocalExceptions, Default::default())
+        self.update_to(snapshot(new))
     }
 
-    /// `delta_since`; None where no delta is served.
+    /// The same, of a snapshot that is parsed already.
+    pub fn update_to(&self, new: PayloadSnapshot) -> bool {
+        self.0.update(ValidationReport(new), &LocalExceptions, Default::default())
+    }
+
+    /// None where no delta is served.
     pub fn since(&self, serial: u32) -> Option<Served> {
-        self.0.read().delta_since(Serial(serial)).as_deref().map(Served::from)
+        self.delta_since(serial).as_deref().map(Served::from)
+    }
+
+    /// The Rust's own value.
+    pub fn delta_since(&self, serial: u32) -> Option<Arc<PayloadDelta>> {
+        self.0.read().delta_since(Serial(serial))
     }
 
     /// Whether `diff` serves a router of the history's own session, and one of another.
