@@ -169,6 +169,15 @@ impl Run {
         true
     }
 
+    /// Counts a comparison with the Rust that was made beside a call, or says that it failed.
+    fn with_rust(&mut self, agrees: Option<bool>, call: &Call) -> Checked {
+        self.rust += u64::from(agrees == Some(true));
+        match agrees {
+            Some(false) => Err(format!("DIFFERENCE ({}); the Rust says otherwise on\n{call}", self.kind)),
+            _ => Ok(()),
+        }
+    }
+
     /// The smallest call that still differs, and what each says of it.
     fn explain(&mut self, call: &Call) -> String {
         let call = shrink(call.clone(), |c| {
@@ -276,18 +285,16 @@ impl Run {
         let steps = if rng.one_in(10) { 90 } else { rng.below(12) };
         for _ in 0..steps {
             let next = bytes(&universe.next(rng, &world.now()));
+            world.refit(rng, next.len());
             if rng.one_in(4) {
                 self.tight_update(&world, next.clone())?;
             }
-            world.refit(rng, next.len());
-            let outcome = self.compare(&world.update(next.clone()))?;
+            let call = world.update(next.clone());
+            let outcome = self.compare(&call)?;
             let [_, snapshots, deltas] = outcome.bytes;
             let first_delta = world.state.n == 0 && outcome.state.n == 1;
             world = World { state: outcome.state, snapshots, deltas };
-            if outcome.answer.kind == 0 {
-                continue; // a store was full
-            }
-            self.rust += u64::from(rust.update(&next, outcome.answer.kind)?);
+            self.with_rust(rust.update(&next, outcome.answer.kind), &call)?;
             if first_delta {
                 world.state.newest = start.wrapping_add(1);
             }
@@ -331,12 +338,8 @@ impl Run {
         let held = &world.snapshots[..full.answer.length as usize];
         // while no delta is held the library is at 0 and the Rust at `start`
         let shift = if state.n == 0 { start } else { 0 };
-        self.rust += u64::from(rust.full(
-            full.answer.serial.wrapping_add(shift),
-            held,
-            notice.answer.serial.wrapping_add(shift),
-            ready.numbers[0] == 1,
-        )?);
+        let [full, notified] = [&full, &notice].map(|o| o.answer.serial.wrapping_add(shift));
+        self.with_rust(rust.full(full, held, notified, ready.numbers[0] == 1), &world.full())?;
         let n = state.n;
         for d in [
             0,
@@ -353,20 +356,13 @@ impl Run {
             rng.next() as u32,
         ] {
             let asked = state.newest.wrapping_sub(d);
-            let call = world.query(session, asked);
-            let outcome = self.compare(&room(rng, call))?;
+            let call = room(rng, world.query(session, asked));
+            let outcome = self.compare(&call)?;
             if outcome.answer.number != 4 {
                 let said = (outcome.answer.kind == 1).then_some((&outcome.answer, &outcome.bytes[2][..]));
-                match rust.since(asked.wrapping_add(shift), said, shift)? {
-                    Some(true) => self.rust += 1,
+                match rust.since(asked.wrapping_add(shift), said, shift) {
                     Some(false) if n == 1 && d == 0x8000_0000 => self.known += 1,
-                    Some(false) => {
-                        return Err(format!(
-                            "DIFFERENCE (history): the Rust on n = {n}, distance {d}\n{}",
-                            world.query(session, asked)
-                        ))
-                    }
-                    None => {}
+                    agrees => self.with_rust(agrees, &call)?,
                 }
             }
             if rng.one_in(8) {
@@ -467,9 +463,9 @@ impl Run {
             edge.wrapping_add(rng.below(3) as u32).wrapping_sub(1)
         };
         let [refresh, retry, expire] = [near(rng), near(rng), near(rng)];
-        let times = self.compare(&Call::timing(refresh, retry, expire))?.numbers;
-        self.rust += u64::from(rust_timing(retry, expire, times)?);
-        Ok(())
+        let call = Call::timing(refresh, retry, expire);
+        let times = self.compare(&call)?.numbers;
+        self.with_rust(rust_timing(retry, expire, times), &call)
     }
 
     /// Inputs and stores at their limits and one byte over, alone and beside other faults. Once a run, for
@@ -620,7 +616,8 @@ fn served(answer: &Answer, out: &[u8]) -> oracle::rust::Served {
     }
 }
 
-/// Routinator's history beside the library's. Each comparison says whether there was one to make.
+/// Routinator's history beside the library's. Each comparison says whether they agree, and nothing where
+/// the Rust is not there.
 struct RustHistory {
     #[cfg(routinator)]
     history: oracle::rust::History,
@@ -632,31 +629,22 @@ impl RustHistory {
         RustHistory { history: oracle::rust::History::new(keep, start) }
     }
 
-    fn update(&self, new: &[u8], kind: u32) -> Checked<bool> {
-        match self.history.update(new) == (kind != 2) {
-            true => Ok(true),
-            false => Err("DIFFERENCE (history): the Rust's update".into()),
-        }
+    fn update(&self, new: &[u8], kind: u32) -> Option<bool> {
+        Some(self.history.update(new) == (kind != 2))
     }
 
-    fn full(&self, serial: u32, held: &[u8], notified: u32, ready: bool) -> Checked<bool> {
-        match self.history.full() == (serial, held.to_vec(), notified, ready) {
-            true => Ok(true),
-            false => Err("DIFFERENCE (history): the Rust's full, notify or ready".into()),
-        }
+    fn full(&self, serial: u32, held: &[u8], notified: u32, ready: bool) -> Option<bool> {
+        Some(self.history.full() == (serial, held.to_vec(), notified, ready))
     }
 
-    /// Whether the Rust says the same of a router at `asked`: `said`, or no delta.
-    fn since(&self, asked: u32, said: Option<(&Answer, &[u8])>, shift: u32) -> Checked<Option<bool>> {
+    /// On a router at `asked`, which was served `said` or nothing.
+    fn since(&self, asked: u32, said: Option<(&Answer, &[u8])>, shift: u32) -> Option<bool> {
         let mut want = said.map(|(answer, out)| served(answer, out));
         if let Some(want) = &mut want {
             want.serial = want.serial.wrapping_add(shift);
         }
         let got = self.history.since(asked);
-        if self.history.diff(asked) != (got.is_some(), false) {
-            return Err("DIFFERENCE (history): the Rust's diff and its delta_since".into());
-        }
-        Ok(Some(got == want))
+        Some(got == want && self.history.diff(asked) == (got.is_some(), false))
     }
 }
 
@@ -665,26 +653,23 @@ impl RustHistory {
     fn new(_: u32, _: u32) -> Self {
         RustHistory {}
     }
-    fn update(&self, _: &[u8], _: u32) -> Checked<bool> {
-        Ok(false)
+    fn update(&self, _: &[u8], _: u32) -> Option<bool> {
+        None
     }
-    fn full(&self, _: u32, _: &[u8], _: u32, _: bool) -> Checked<bool> {
-        Ok(false)
+    fn full(&self, _: u32, _: &[u8], _: u32, _: bool) -> Option<bool> {
+        None
     }
-    fn since(&self, _: u32, _: Option<(&Answer, &[u8])>, _: u32) -> Checked<Option<bool>> {
-        Ok(None)
+    fn since(&self, _: u32, _: Option<(&Answer, &[u8])>, _: u32) -> Option<bool> {
+        None
     }
 }
 
 #[cfg(routinator)]
-fn rust_timing(retry: u32, expire: u32, times: [u64; 3]) -> Checked<bool> {
+fn rust_timing(retry: u32, expire: u32, times: [u64; 3]) -> Option<bool> {
     let (_, by_rust, expires) = oracle::rust::timing(retry, expire);
-    match [u64::from(by_rust), u64::from(expires)] == times[1..] {
-        true => Ok(true),
-        false => Err("DIFFERENCE (numbers): the Rust's timing".into()),
-    }
+    Some([u64::from(by_rust), u64::from(expires)] == times[1..])
 }
 #[cfg(not(routinator))]
-fn rust_timing(_: u32, _: u32, _: [u64; 3]) -> Checked<bool> {
-    Ok(false)
+fn rust_timing(_: u32, _: u32, _: [u64; 3]) -> Option<bool> {
+    None
 }
