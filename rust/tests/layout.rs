@@ -60,6 +60,23 @@ fn same_as_in_c() {
     assert_eq!(String::from_utf8(printed).unwrap(), expected);
 }
 
+/// The header is as good for C++, where a C++ compiler is there to say so.
+#[test]
+fn header_in_cpp() {
+    let dir = Path::new(env!("CARGO_TARGET_TMPDIR"));
+    let source = dir.join("header.cc");
+    std::fs::write(&source, "#include \"taplevung.h\"\n").unwrap();
+    let include = concat!(env!("CARGO_MANIFEST_DIR"), "/../include");
+    let cpp = Command::new("c++")
+        .args(["-std=c++11", "-Wall", "-Wextra", "-Werror", "-pedantic", "-fsyntax-only", "-I", include])
+        .arg(&source)
+        .status();
+    match cpp {
+        Ok(status) => assert!(status.success()),
+        Err(_) => println!("no c++ on the path: not tried"),
+    }
+}
+
 #[test]
 fn limits_are_the_headers() {
     let header = include_str!("../../include/taplevung.h");
