@@ -1,0 +1,235 @@
+/*
+ * taplevung: RPKI payload deltas and their history, on bytes.
+ *
+ * A snapshot is the whole payload at one moment. A delta is what changed between two
+ * snapshots. Both are runs of fields: a tag byte, a two-byte big-endian length, a body,
+ * in strictly ascending order. A history keeps the newest snapshot and the last deltas
+ * and says what a router is to be sent.
+ *
+ * How all functions behave:
+ *
+ *  - A slice is a pointer and then a length in bytes. The pointer must not be NULL and
+ *    must be good for that many bytes; for length 0 any such pointer will do.
+ *  - An output, or a store that is written, must not overlap any other argument.
+ *  - Nothing is allocated, nothing is kept between calls and there are no globals, so
+ *    calls on different buffers can run in different threads.
+ *  - An answer of kind TAPLEVUNG_REFUSED has the refusal's number, argument and offset,
+ *    and 0 everywhere else. A refused call has written nothing: the output and both
+ *    stores are as they were.
+ *  - On success the output holds the answer in its first `length` bytes; the bytes past
+ *    those are as they were.
+ */
+#ifndef TAPLEVUNG_H
+#define TAPLEVUNG_H
+
+#include <stdbool.h>
+#include <stddef.h>
+#include <stdint.h>
+
+#ifdef __cplusplus
+extern "C" {
+#endif
+
+/* The longest snapshot, and snapshot store, in bytes. */
+#define TAPLEVUNG_SNAPSHOT_LIMIT 16777216
+/* The longest delta, and delta store, in bytes. */
+#define TAPLEVUNG_DELTA_LIMIT 33554432
+/* The most deltas that a history keeps. The least is 1. */
+#define TAPLEVUNG_KEEP_LIMIT 64
+
+/* What `kind` of an answer says. Where two names have one number, the call tells them apart. */
+enum {
+    TAPLEVUNG_REFUSED = 0,   /* any call: see number, argument and offset */
+    TAPLEVUNG_DONE = 1,      /* merge, apply, create, query, full */
+    TAPLEVUNG_DELTA = 1,     /* construct: a delta was written */
+    TAPLEVUNG_NO_CHANGE = 2, /* construct: the snapshots are equal, nothing was written */
+    TAPLEVUNG_FIRST = 1,     /* update: the history's first snapshot, the serial stays 0 */
+    TAPLEVUNG_UNCHANGED = 2, /* update: the snapshot is the one that is held already */
+    TAPLEVUNG_CHANGED = 3    /* update: a delta was added, the serial is one higher */
+};
+
+/* What `number` of a refused answer says. */
+enum {
+    TAPLEVUNG_BAD_FIELD = 1,     /* a field is cut short, has an unknown tag or a bad body */
+    TAPLEVUNG_OUT_OF_ORDER = 2,  /* a field does not stand above the one before it */
+    TAPLEVUNG_DOES_NOT_FIT = 3,  /* an item of the delta cannot be applied to the snapshot */
+    TAPLEVUNG_NO_ROOM = 4,       /* the answer is longer than the output */
+    TAPLEVUNG_OTHER_SESSION = 5, /* the query names another session */
+    TAPLEVUNG_NOT_SERVED = 6,    /* no delta from the query's serial is held */
+    TAPLEVUNG_ILL_FORMED = 7,    /* the state and the stores are no history */
+    TAPLEVUNG_BAD_KEEP = 8,      /* a history keeps 1 to 64 deltas */
+    TAPLEVUNG_STORE_FULL = 9,    /* the snapshot, or the deltas to be held, exceed their store */
+    TAPLEVUNG_TOO_LONG = 10      /* an input, or a store at creation, is over its limit */
+};
+
+/* The serial of a snapshot. After 4,294,967,295 comes 0. */
+typedef struct {
+    uint32_t value;
+} taplevung_serial;
+
+/* The session as routers see it: the low 16 bits of a history's session. */
+typedef struct {
+    uint16_t value;
+} taplevung_session;
+
+/*
+ * A history, but for the bytes in its two stores. Keep it beside them and hand all three
+ * to the next call. Held bytes start at offset 0 of their store; deltas stand oldest
+ * first, without gaps.
+ */
+typedef struct {
+    uint64_t session;
+    uint32_t keep;           /* how many deltas are kept, 1 to 64 */
+    uint32_t active;         /* 0 until the first snapshot; then 1 (any other number will do) */
+    taplevung_serial newest; /* the serial of the held snapshot */
+    uint32_t n;              /* how many deltas are held, at most keep */
+    uint32_t snapshot;       /* the length of the held snapshot */
+    uint32_t deltas[64];     /* the lengths of the held deltas; those past n are ignored */
+} taplevung_state;
+
+/* What a call says. What each number holds is told at each function. */
+typedef struct {
+    uint32_t kind;           /* refused, or what was done */
+    uint32_t number;         /* a refusal's number, else 0 */
+    uint32_t argument;       /* which argument is at fault, 1 or 2, for nos. 1, 2, 3, 10; else 0 */
+    taplevung_serial serial;
+    uint64_t offset;         /* where in that argument the field starts, for nos. 1, 2, 3; else 0 */
+    uint64_t length;
+    uint64_t announced;      /* items of a delta that announce or update */
+    uint64_t withdrawn;      /* items of a delta that withdraw */
+} taplevung_answer;
+
+/* The answer of create and update, and the state from then on. */
+typedef struct {
+    taplevung_answer answer;
+    taplevung_state state;
+} taplevung_made;
+
+/* The answer of query and full, and the session to name to the router. */
+typedef struct {
+    taplevung_session session;
+    taplevung_answer answer;
+} taplevung_told;
+
+/* What a Serial Notify says. */
+typedef struct {
+    taplevung_session session;
+    taplevung_serial serial;
+} taplevung_notice;
+
+/* The three intervals of an End of Data message, in seconds. */
+typedef struct {
+    uint32_t refresh, retry, expire;
+} taplevung_timing_values;
+
+/*
+ * Writes the difference between two snapshots to the output.
+ *
+ * TAPLEVUNG_DELTA: serial is old_serial plus 1; length, announced and withdrawn are the
+ * delta's. TAPLEVUNG_NO_CHANGE: every other number is 0 and nothing is written.
+ * Refusals: 10, then 1 and 2 (argument 1 the old snapshot, 2 the new one), then 4.
+ */
+taplevung_answer taplevung_construct(
+    const uint8_t *old_snapshot, size_t old_length,
+    const uint8_t *new_snapshot, size_t new_length,
+    taplevung_serial old_serial,
+    uint8_t *out, size_t out_length);
+
+/*
+ * Writes one delta that does what two do, the earlier and then the later.
+ *
+ * TAPLEVUNG_DONE: serial is later_serial; length, announced and withdrawn are those of
+ * the delta written, which may be empty.
+ * Refusals: 10, then 1 and 2 (argument 1 the earlier delta, 2 the later one), then 4.
+ */
+taplevung_answer taplevung_merge(
+    const uint8_t *earlier, size_t earlier_length,
+    const uint8_t *later, size_t later_length,
+    taplevung_serial later_serial,
+    uint8_t *out, size_t out_length);
+
+/*
+ * Writes the snapshot that a delta makes of a snapshot.
+ *
+ * TAPLEVUNG_DONE: length is that of the snapshot written; every other number is 0.
+ * Refusals: 10, then 1 and 2 (argument 1 the snapshot, 2 the delta), then 3 (argument 2,
+ * the first item that cannot be applied), then 4.
+ */
+taplevung_answer taplevung_apply(
+    const uint8_t *snapshot, size_t snapshot_length,
+    const uint8_t *delta, size_t delta_length,
+    uint8_t *out, size_t out_length);
+
+/*
+ * Makes a history with no snapshot yet. The stores are only measured; their bytes are
+ * neither read nor written.
+ *
+ * TAPLEVUNG_DONE: every other number of the answer is 0, and `state` is the new history.
+ * Refused: `state` is all zero. Refusals: 8, then 10 (argument 1 the snapshot store, 2
+ * the delta store).
+ */
+taplevung_made taplevung_create(
+    uint64_t session, uint32_t keep,
+    const uint8_t *snapshots, size_t snapshots_length,
+    const uint8_t *deltas, size_t deltas_length);
+
+/*
+ * Takes a new snapshot into a history. If it differs from the held one, the difference
+ * is added to the deltas, and if `keep` are held already the oldest is dropped first.
+ * Each store's bytes past what is then held are as they were.
+ *
+ * TAPLEVUNG_FIRST, TAPLEVUNG_UNCHANGED, TAPLEVUNG_CHANGED: serial is the newest serial;
+ * length, announced and withdrawn are those of the delta that was added, else 0. `state`
+ * is the history from now on. Unchanged or refused: `state` is the one that was given
+ * and both stores are as they were.
+ * Refusals: 7, then 10, 1 and 2 (argument 1, the new snapshot), then 9.
+ */
+taplevung_made taplevung_update(
+    taplevung_state state,
+    const uint8_t *new_snapshot, size_t new_length,
+    uint8_t *snapshots, size_t snapshots_length,
+    uint8_t *deltas, size_t deltas_length);
+
+/*
+ * Writes the delta for a router that is at `serial` of `session`.
+ *
+ * TAPLEVUNG_DONE: `session` and serial are those to name to the router; length,
+ * announced and withdrawn are those of the delta written, which is empty if the router
+ * is up to date. Refused: `session` is 0.
+ * Refusals: 7, then 5, 6 and 4.
+ */
+taplevung_told taplevung_query(
+    taplevung_state state, taplevung_session session, taplevung_serial serial,
+    const uint8_t *snapshots, size_t snapshots_length,
+    const uint8_t *deltas, size_t deltas_length,
+    uint8_t *out, size_t out_length);
+
+/*
+ * Says what a router is sent that asks for everything: the first `length` bytes of the
+ * snapshot store, none before the first snapshot.
+ *
+ * TAPLEVUNG_DONE: `session` and serial are those to name to the router; announced and
+ * withdrawn are 0. Refused: `session` is 0. Refusals: 7.
+ */
+taplevung_told taplevung_full(
+    taplevung_state state,
+    const uint8_t *snapshots, size_t snapshots_length,
+    const uint8_t *deltas, size_t deltas_length);
+
+/* Says what session and serial to notify routers of. Never refuses. */
+taplevung_notice taplevung_notify(taplevung_state state);
+
+/* Says whether the history has a snapshot yet. Never refuses. */
+bool taplevung_ready(taplevung_state state);
+
+/*
+ * Brings each interval, alone, into the range of RFC 8210: refresh 1 to 86,400, retry 1
+ * to 7,200, expire 600 to 172,800. Never refuses.
+ */
+taplevung_timing_values taplevung_timing(uint32_t refresh, uint32_t retry, uint32_t expire);
+
+#ifdef __cplusplus
+}
+#endif
+
+#endif

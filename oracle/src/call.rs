@@ -1,0 +1,190 @@
+//! One call of the C interface with all it is lent, and all that it leaves.
+use std::fmt;
+
+/// The functions of the C interface, in the header's order.
+#[derive(Clone, Copy, Debug, Eq, Ord, PartialEq, PartialOrd)]
+#[repr(u32)]
+pub enum Entry {
+    Construct,
+    Merge,
+    Apply,
+    Create,
+    Update,
+    Query,
+    Full,
+    Notify,
+    Ready,
+    Timing,
+}
+
+/// `taplevung_state`.
+#[derive(Clone, Copy, Eq, PartialEq)]
+pub struct State {
+    pub session: u64,
+    pub keep: u32,
+    pub active: u32,
+    pub newest: u32,
+    pub n: u32,
+    pub snapshot: u32,
+    pub deltas: [u32; 64],
+}
+
+impl State {
+    pub const ZERO: State =
+        State { session: 0, keep: 0, active: 0, newest: 0, n: 0, snapshot: 0, deltas: [0; 64] };
+
+    /// The lengths of the held deltas; `n` must be at most 64.
+    pub fn held(&self) -> &[u32] {
+        &self.deltas[..self.n as usize]
+    }
+}
+
+/// `taplevung_answer`.
+#[derive(Clone, Copy, Debug, Default, Eq, PartialEq)]
+pub struct Answer {
+    pub kind: u32,
+    pub number: u32,
+    pub argument: u32,
+    pub serial: u32,
+    pub offset: u64,
+    pub length: u64,
+    pub announced: u64,
+    pub withdrawn: u64,
+}
+
+/// A call. Which numbers and slices an entry takes is said at the functions that make one; slices
+/// stand in the order of the C function's parameters.
+#[derive(Clone)]
+pub struct Call {
+    pub entry: Entry,
+    pub state: State,
+    pub numbers: [u64; 3],
+    pub bytes: [Vec<u8>; 3],
+}
+
+/// All that a call hands back, and every lent byte afterwards. What an entry does not hand back is 0.
+#[derive(Clone, Eq, PartialEq)]
+pub struct Outcome {
+    pub answer: Answer,
+    pub state: State,
+    /// The session; or whether ready; or the three times.
+    pub numbers: [u64; 3],
+    pub bytes: [Vec<u8>; 3],
+}
+
+impl Call {
+    fn new(entry: Entry, state: State, numbers: [u64; 3], bytes: [Vec<u8>; 3]) -> Self {
+        Call { entry, state, numbers, bytes }
+    }
+    pub fn construct(old: Vec<u8>, new: Vec<u8>, serial: u32, out: Vec<u8>) -> Self {
+        Self::new(Entry::Construct, State::ZERO, [serial.into(), 0, 0], [old, new, out])
+    }
+    pub fn merge(earlier: Vec<u8>, later: Vec<u8>, serial: u32, out: Vec<u8>) -> Self {
+        Self::new(Entry::Merge, State::ZERO, [serial.into(), 0, 0], [earlier, later, out])
+    }
+    pub fn apply(snapshot: Vec<u8>, delta: Vec<u8>, out: Vec<u8>) -> Self {
+        Self::new(Entry::Apply, State::ZERO, [0; 3], [snapshot, delta, out])
+    }
+    pub fn create(session: u64, keep: u32, snapshots: Vec<u8>, deltas: Vec<u8>) -> Self {
+        Self::new(Entry::Create, State::ZERO, [session, keep.into(), 0], [snapshots, deltas, vec![]])
+    }
+    pub fn update(state: State, new: Vec<u8>, snapshots: Vec<u8>, deltas: Vec<u8>) -> Self {
+        Self::new(Entry::Update, state, [0; 3], [new, snapshots, deltas])
+    }
+    pub fn query(
+        state: State,
+        session: u16,
+        serial: u32,
+        snapshots: Vec<u8>,
+        deltas: Vec<u8>,
+        out: Vec<u8>,
+    ) -> Self {
+        Self::new(Entry::Query, state, [session.into(), serial.into(), 0], [snapshots, deltas, out])
+    }
+    pub fn full(state: State, snapshots: Vec<u8>, deltas: Vec<u8>) -> Self {
+        Self::new(Entry::Full, state, [0; 3], [snapshots, deltas, vec![]])
+    }
+    pub fn notify(state: State) -> Self {
+        Self::new(Entry::Notify, state, [0; 3], Default::default())
+    }
+    pub fn ready(state: State) -> Self {
+        Self::new(Entry::Ready, state, [0; 3], Default::default())
+    }
+    pub fn timing(refresh: u32, retry: u32, expire: u32) -> Self {
+        Self::new(
+            Entry::Timing,
+            State::ZERO,
+            [refresh.into(), retry.into(), expire.into()],
+            Default::default(),
+        )
+    }
+
+    /// Which slices are the snapshot store and the delta store.
+    pub fn stores(&self) -> Option<(usize, usize)> {
+        match self.entry {
+            Entry::Create | Entry::Query | Entry::Full => Some((0, 1)),
+            Entry::Update => Some((1, 2)),
+            _ => None,
+        }
+    }
+
+    /// Which slice is the output.
+    pub fn out(&self) -> Option<usize> {
+        match self.entry {
+            Entry::Construct | Entry::Merge | Entry::Apply | Entry::Query => Some(2),
+            _ => None,
+        }
+    }
+
+    /// Which slices are inputs, one behind the other from the first.
+    pub fn inputs(&self) -> usize {
+        match self.entry {
+            Entry::Construct | Entry::Merge | Entry::Apply => 2,
+            Entry::Update => 1,
+            _ => 0,
+        }
+    }
+}
+
+impl fmt::Debug for State {
+    /// Without the zeros at the end of the lengths.
+    fn fmt(&self, f: &mut fmt::Formatter<'_>) -> fmt::Result {
+        let used = self.deltas.iter().rposition(|l| *l != 0).map_or(0, |at| at + 1);
+        let State { session, keep, active, newest, n, snapshot, deltas } = self;
+        write!(f, "session {session}, keep {keep}, active {active}, newest {newest}, n {n}, ")?;
+        write!(f, "snapshot {snapshot}, deltas {:?}", &deltas[..used])
+    }
+}
+
+impl fmt::Display for Call {
+    fn fmt(&self, f: &mut fmt::Formatter<'_>) -> fmt::Result {
+        writeln!(f, "  {:?}, numbers {:?}", self.entry, self.numbers)?;
+        if self.state != State::ZERO {
+            writeln!(f, "  state: {:?}", self.state)?;
+        }
+        for (i, bytes) in self.bytes.iter().enumerate() {
+            writeln!(f, "  slice {} ({} bytes): {}", i + 1, bytes.len(), hex(bytes))?;
+        }
+        Ok(())
+    }
+}
+
+impl Outcome {
+    /// In words, after this call.
+    pub fn tell(&self, call: &Call) -> String {
+        let mut out = format!("  {:?}, numbers {:?}\n", self.answer, self.numbers);
+        if matches!(call.entry, Entry::Create | Entry::Update) {
+            out += &format!("  state: {:?}\n", self.state);
+        }
+        for (i, (after, before)) in self.bytes.iter().zip(&call.bytes).enumerate() {
+            if after != before {
+                out += &format!("  slice {} then: {}\n", i + 1, hex(after));
+            }
+        }
+        out
+    }
+}
+
+fn hex(bytes: &[u8]) -> String {
+    bytes.iter().map(|b| format!("{b:02x}")).collect()
+}

@@ -1,0 +1,25 @@
+//! The proved library against document 01 and against the Rust that it ports.
+//!
+//! - [`model`] is document 01, written from its words.
+//! - [`rust`] is Routinator's own code, unchanged, over stand-ins for the crates it uses. It is there
+//!   only where its source is (see `build.rs`).
+//! - [`port`] is the library, in a process of its own.
+//!
+//! [`make`] and [`damage`] make the inputs, [`call`] is one call with all it is lent, [`shrink`] finds
+//! the smallest call that still shows a difference.
+pub mod call;
+pub mod damage;
+pub mod field;
+pub mod make;
+pub mod model;
+pub mod port;
+pub mod rng;
+#[cfg(routinator)]
+pub mod rust;
+pub mod shrink;
+
+#[cfg(routinator)]
+#[allow(dead_code)]
+mod routinator;
+#[cfg(routinator)]
+use routinator::{config, metrics, payload, slurm};

@@ -1,0 +1,178 @@
+//! The Rust, unchanged, against the model of document 01: the marked examples, all actions on one key, and
+//! what lies outside the comparison.
+#![cfg(routinator)]
+use oracle::call::{Call, State};
+use oracle::field::put;
+use oracle::make::Universe;
+use oracle::model::{self, Change, Delta, Refused, Snapshot};
+use oracle::rng::Rng;
+use oracle::rust::{self, History};
+
+/// An ASPA of a snapshot: customer and providers.
+fn aspa(customer: u32, providers: &[u32]) -> Vec<u8> {
+    let mut out = vec![];
+    let list: Vec<u8> = providers.iter().flat_map(|p| p.to_be_bytes()).collect();
+    put(&mut out, 3, &[&customer.to_be_bytes(), &list]);
+    out
+}
+
+fn difference(old: &[u8], new: &[u8]) -> Vec<u8> {
+    rust::construct(old, new, 0).expect("they differ").bytes
+}
+
+/// A history of the Rust after these many changes: snapshot i holds customer i alone.
+fn history(start: u32, changes: u32) -> (History, Vec<Vec<u8>>) {
+    let history = History::new(5, start);
+    let snapshots: Vec<_> = (0..=changes).map(|i| aspa(i, &[i + 1])).collect();
+    snapshots.iter().for_each(|s| assert!(history.update(s)));
+    (history, snapshots)
+}
+
+/// What the model's history says after the same, its serial moved so that it ends where the Rust's does.
+fn model_since(start: u32, snapshots: &[Vec<u8>], serial: u32) -> Option<Vec<u8>> {
+    let mut state = State { keep: 5, ..State::ZERO };
+    let (mut held, mut deltas) = (vec![0; 100], vec![0; 1000]);
+    for new in snapshots {
+        let outcome = model::run(&Call::update(state, new.clone(), held, deltas));
+        state = outcome.state;
+        [_, held, deltas] = outcome.bytes;
+    }
+    if state.n > 0 {
+        state.newest = state.newest.wrapping_add(start);
+    }
+    let outcome = model::run(&Call::query(state, 0, serial, held, deltas, vec![0; 1000]));
+    match outcome.answer.number {
+        0 => Some(outcome.bytes[2][..outcome.answer.length as usize].to_vec()),
+        number => {
+            assert_eq!(number, 6);
+            None
+        }
+    }
+}
+
+#[test]
+fn k1_to_k7_serving() {
+    // K1
+    assert_eq!(rust::construct(b"", b"", 0), None);
+    for (start, changes, serial, from) in [
+        // K2: inactive is tried below
+        (0, 0, 0, Some(0)),
+        (0, 0, 1, None),
+        // K3
+        (0, 2, 0, None),
+        (0, 2, 1, Some(1)),
+        (0, 2, 2, Some(2)),
+        (0, 2, 3, None),
+        // K4
+        (0, 1, 0, Some(0)),
+        // K5
+        (0, 3, 1, Some(1)),
+        // K7
+        (4_294_967_293, 3, 4_294_967_294, Some(1)),
+        (4_294_967_293, 3, 4_294_967_293, None),
+    ] {
+        let (history, snapshots) = history(start, changes);
+        let last = snapshots.last().expect("one at least");
+        let want = from.map(|i: usize| rust::construct(&snapshots[i], last, 0).map_or(vec![], |s| s.bytes));
+        assert_eq!(history.since(serial).map(|s| s.bytes), want, "{start} {changes} {serial}");
+        assert_eq!(model_since(start, &snapshots, serial), want, "{start} {changes} {serial}");
+    }
+    let inactive = History::new(3, 0);
+    assert_eq!(inactive.since(0).map(|s| s.bytes), Some(vec![]));
+    assert_eq!(inactive.since(1), None);
+    assert_eq!(model_since(0, &[], 0), Some(vec![]));
+    assert_eq!(model_since(0, &[], 1), None);
+}
+
+#[test]
+fn k6_is_the_one_difference() {
+    let (history, snapshots) = history(0, 1);
+    let served = history.since(2_147_483_649).expect("the Rust serves it");
+    assert_eq!((served.bytes, served.serial), (vec![], 2_147_483_649));
+    assert_eq!(model_since(0, &snapshots, 2_147_483_649), None);
+}
+
+#[test]
+fn k8_to_k10_merging() {
+    let (p, q) = (aspa(1, &[64497]), aspa(1, &[64498]));
+    let update = b"\x33\x00\x0e\x00\x00\x00\x01\x00\x01\x00\x00\xfb\xf1\x00\x00\xfb\xf2";
+    let announce = b"\x31\x00\x08\x00\x00\x00\x01\x00\x00\xfb\xf2";
+    for (a, b, c, want) in [
+        (&p[..], &b""[..], &p[..], &b""[..]), // K8
+        (&p, b"", &q, update),                // K9
+        (b"", &p, &q, announce),              // K10
+    ] {
+        let (earlier, later) = (difference(a, b), difference(b, c));
+        assert_eq!(rust::merge(&earlier, &later, 2).bytes, want);
+        let by_model = model::merge(&model::delta(&earlier, 1).unwrap(), &model::delta(&later, 2).unwrap());
+        assert_eq!(model::delta_bytes(&by_model), want);
+    }
+}
+
+#[test]
+fn k11_timing() {
+    assert_eq!(rust::timing(0, 0), (1, 1, 600));
+    assert_eq!(model::timing(0, 0, 0), (1, 1, 600));
+}
+
+fn one(key: &[u8], change: &Change) -> Delta {
+    [(key.to_vec(), change.clone())].into()
+}
+
+/// Every action on a key of this kind, over four provider lists.
+fn actions(kind: u8) -> Vec<Change> {
+    let lists = [vec![], vec![0, 0, 0, 1], vec![0, 0, 0, 2], vec![0, 0, 0, 1, 0, 0, 0, 2]];
+    if kind < 3 {
+        return vec![Change::Announce(vec![]), Change::Withdraw(vec![])];
+    }
+    let alone = lists.iter().flat_map(|l| [Change::Announce(l.clone()), Change::Withdraw(l.clone())]);
+    let pairs = lists.iter().flat_map(|p| lists.iter().map(|n| Change::Update(p.clone(), n.clone())));
+    alone.chain(pairs).collect()
+}
+
+#[test]
+fn every_pair_of_actions_on_one_key() {
+    let mut origin = vec![1, 4];
+    origin.extend([0; 22]);
+    for key in [origin, [&[2][..], &[7; 24]].concat(), vec![3, 0, 0, 0, 1]] {
+        for (e, l) in
+            actions(key[0]).iter().flat_map(|e| actions(key[0]).into_iter().map(move |l| (e.clone(), l)))
+        {
+            let (e, l) = (one(&key, &e), one(&key, &l));
+            let said = rust::merge(&model::delta_bytes(&e), &model::delta_bytes(&l), 6);
+            let want = model::merge(&e, &l);
+            assert_eq!(said.bytes, model::delta_bytes(&want));
+            assert_eq!((said.announced, said.withdrawn), model::counts(&want));
+        }
+    }
+}
+
+/// What a server is shown of a delta: updates as announcements, withdrawn ASPAs as customers.
+#[test]
+fn what_a_server_is_shown() {
+    let universe = Universe::fixed();
+    for round in 0..2000 {
+        let delta = universe.delta(&mut Rng::new(5, round));
+        let want: Vec<_> = delta
+            .iter()
+            .map(|(key, change)| match change {
+                Change::Announce(new) | Change::Update(_, new) => (key[0], true, [&key[1..], new].concat()),
+                Change::Withdraw(_) => (key[0], false, key[1..].to_vec()),
+            })
+            .collect();
+        assert_eq!(rust::shown(rust::delta(&model::delta_bytes(&delta), 1)), want);
+    }
+}
+
+/// Snapshots that 01 refuses: the Rust sorts them silently, keeps duplicates, and then withdraws what is
+/// still there.
+#[test]
+fn outside_the_comparison() {
+    let (one, two) = (aspa(1, &[]), aspa(2, &[]));
+    let (up, down, twice) = ([&one[..], &two].concat(), [&two[..], &one].concat(), [&one[..], &one].concat());
+    assert_eq!(rust::construct(&up, &down, 0), None);
+    assert_eq!(difference(&twice, &one)[0], 0x32);
+    for bad in [down, twice] {
+        assert_eq!(model::snapshot(&bad, 1), Err::<Snapshot, _>(Refused(2, 1, 7)));
+    }
+}

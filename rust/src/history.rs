@@ -1,0 +1,125 @@
+use crate::{raw, Delta, Refusal, Serial, Session};
+
+/// The newest snapshot and the last deltas, and what a router is to be sent.
+///
+/// A history owns its two stores. Their sizes are fixed when it is made: an update that needs more
+/// is refused with [`Refusal::StoreFull`] and changes nothing.
+///
+/// ```
+/// use taplevung::{History, Refusal, Serial, Session, Updated};
+///
+/// // ASPA fields: customer 1 with provider 2, then with provider 3.
+/// let one = b"\x03\x00\x08\x00\x00\x00\x01\x00\x00\x00\x02";
+/// let two = b"\x03\x00\x08\x00\x00\x00\x01\x00\x00\x00\x03";
+///
+/// let mut history = History::new(77, 10, 1000, 1000)?;
+/// assert_eq!(history.update(one)?, Updated::First);
+/// assert!(matches!(history.update(two)?, Updated::Changed(_)));
+/// assert_eq!(history.full()?.snapshot, two);
+///
+/// let mut out = [0; 100];
+/// let served = history.query(Session(77), Serial(0), &mut out)?;
+/// assert_eq!((served.delta.serial, served.delta.announced), (Serial(1), 1));
+/// assert_eq!(out[0], 0x33); // an update
+/// assert_eq!(history.query(Session(77), Serial(9), &mut out), Err(Refusal::NotServed));
+/// # Ok::<(), Refusal>(())
+/// ```
+#[derive(Clone, Debug)]
+pub struct History {
+    state: raw::State,
+    snapshots: Vec<u8>,
+    deltas: Vec<u8>,
+}
+
+/// What an update did.
+#[derive(Clone, Copy, Debug, Eq, PartialEq)]
+pub enum Updated {
+    /// The history's first snapshot; the serial stays 0.
+    First,
+    /// The snapshot is the one that is held already.
+    Unchanged,
+    /// This delta was added, and its serial is the newest.
+    Changed(Delta),
+}
+
+/// The answer to a query: the session to name to the router, and the delta that was written.
+#[derive(Clone, Copy, Debug, Eq, PartialEq)]
+pub struct Served {
+    pub session: Session,
+    pub delta: Delta,
+}
+
+/// Everything: the session and serial to name to the router, and the held snapshot.
+#[derive(Clone, Copy, Debug, Eq, PartialEq)]
+pub struct Full<'a> {
+    pub session: Session,
+    pub serial: Serial,
+    pub snapshot: &'a [u8],
+}
+
+impl History {
+    /// Makes a history with no snapshot yet, which keeps up to `keep` deltas.
+    ///
+    /// Refused if `keep` is not 1 to 64 or a store is over its limit
+    /// ([`SNAPSHOT_LIMIT`](crate::SNAPSHOT_LIMIT), [`DELTA_LIMIT`](crate::DELTA_LIMIT)).
+    pub fn new(
+        session: u64,
+        keep: u32,
+        snapshot_store_len: usize,
+        delta_store_len: usize,
+    ) -> Result<Self, Refusal> {
+        let (snapshots, deltas) = (vec![0; snapshot_store_len], vec![0; delta_store_len]);
+        let made = raw::create(session, keep, &snapshots, &deltas);
+        Refusal::check(&made.answer)?;
+        Ok(History { state: made.state, snapshots, deltas })
+    }
+
+    /// Takes a new snapshot. If it differs from the held one, their difference becomes the newest
+    /// delta, and the oldest is dropped if there are too many.
+    pub fn update(&mut self, new: &[u8]) -> Result<Updated, Refusal> {
+        let made = raw::update(self.state, new, &mut self.snapshots, &mut self.deltas);
+        Refusal::check(&made.answer)?;
+        self.state = made.state;
+        Ok(match made.answer.kind {
+            1 => Updated::First,
+            2 => Updated::Unchanged,
+            _ => Updated::Changed(Delta::of(&made.answer)),
+        })
+    }
+
+    /// Writes the delta for a router that is at `serial` of `session`. It is empty if the router is
+    /// up to date.
+    pub fn query(&self, session: Session, serial: Serial, out: &mut [u8]) -> Result<Served, Refusal> {
+        let told = raw::query(self.state, session, serial, &self.snapshots, &self.deltas, out);
+        Refusal::check(&told.answer)?;
+        Ok(Served { session: told.session, delta: Delta::of(&told.answer) })
+    }
+
+    /// What a router is sent that asks for everything. The snapshot is empty before the first
+    /// update.
+    pub fn full(&self) -> Result<Full<'_>, Refusal> {
+        let told = raw::full(self.state, &self.snapshots, &self.deltas);
+        Refusal::check(&told.answer)?;
+        Ok(Full {
+            session: told.session,
+            serial: told.answer.serial,
+            snapshot: &self.snapshots[..told.answer.length as usize],
+        })
+    }
+
+    /// The session and serial to notify routers of.
+    pub fn notify(&self) -> (Session, Serial) {
+        let notice = raw::notify(self.state);
+        (notice.session, notice.serial)
+    }
+
+    /// Whether the history has a snapshot yet.
+    pub fn ready(&self) -> bool {
+        raw::ready(self.state)
+    }
+
+    /// The state, for a program that stores it beside the bytes of both stores.
+    pub fn state(&self) -> raw::State {
+        self.state
+    }
+}

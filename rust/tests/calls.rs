@@ -1,0 +1,112 @@
+//! Each wrapper once or twice: what comes back in Rust's words. What the answers ought to be for all
+//! kinds of input is the oracle's business.
+use taplevung::{
+    apply, construct, merge, timing, Constructed, Delta, History, Refusal, Serial, Session, Timing, Updated,
+    DELTA_LIMIT, SNAPSHOT_LIMIT,
+};
+
+/// A field of an ASPA: tag, customer, providers.
+fn aspa(tag: u8, customer: u32, providers: &[u32]) -> Vec<u8> {
+    let mut field = vec![tag, 0, 4 + 4 * providers.len() as u8];
+    field.extend(customer.to_be_bytes());
+    field.extend(providers.iter().flat_map(|p| p.to_be_bytes()));
+    field
+}
+
+#[test]
+fn difference_and_application() {
+    let (old, new) = (aspa(3, 1, &[2]), aspa(3, 9, &[2, 3]));
+    let mut out = [7; 64];
+    let Ok(Constructed::Delta(delta)) = construct(&old, &new, Serial(u32::MAX), &mut out) else {
+        panic!("no delta");
+    };
+    let bytes = [aspa(0x32, 1, &[2]), aspa(0x31, 9, &[2, 3])].concat();
+    assert_eq!(delta, Delta { serial: Serial(0), length: bytes.len(), announced: 1, withdrawn: 1 });
+    assert_eq!(out[..delta.length], bytes);
+    assert!(out[delta.length..].iter().all(|&b| b == 7));
+
+    let mut again = [7; 64];
+    let length = apply(&old, &bytes, &mut again).unwrap();
+    assert_eq!(again[..length], new);
+    assert_eq!(construct(&new, &new, Serial(3), &mut []), Ok(Constructed::NoChange));
+}
+
+#[test]
+fn merging() {
+    let (announce, withdraw) = (aspa(0x31, 1, &[5]), aspa(0x32, 1, &[4]));
+    let mut out = [0; 64];
+    let delta = merge(&withdraw, &announce, Serial(8), &mut out).unwrap();
+    assert_eq!((delta.serial, delta.announced, delta.withdrawn), (Serial(8), 1, 0));
+    assert_eq!(out[..delta.length], *b"\x33\x00\x0e\0\0\0\x01\0\x01\0\0\0\x04\0\0\0\x05");
+    assert_eq!(merge(&announce, &withdraw, Serial(8), &mut []).unwrap().length, 0);
+}
+
+#[test]
+fn refusals() {
+    let good = aspa(3, 1, &[2]);
+    let disorder = [aspa(3, 5, &[]), aspa(3, 4, &[])].concat();
+    let absent = aspa(0x32, 3, &[]);
+    let long = vec![0; SNAPSHOT_LIMIT + 1];
+    let out = &mut [0; 64][..];
+    let history = |keep, snapshots, deltas| History::new(1, keep, snapshots, deltas).unwrap_err();
+    let mut small = History::new(70_000, 1, 11, 0).unwrap();
+    for (refusal, number, argument, offset) in [
+        (construct(&good, b"\x01", Serial(0), out).unwrap_err(), 1, Some(2), Some(0)),
+        (construct(&disorder, b"", Serial(0), out).unwrap_err(), 2, Some(1), Some(7)),
+        (apply(&good, &absent, out).unwrap_err(), 3, Some(2), Some(0)),
+        (construct(b"", &good, Serial(0), &mut out[..10]).unwrap_err(), 4, None, None),
+        (small.query(Session(70_000u32 as u16 + 1), Serial(0), out).unwrap_err(), 5, None, None),
+        (small.query(Session(70_000u32 as u16), Serial(1), out).unwrap_err(), 6, None, None),
+        (history(0, 0, 0), 8, None, None),
+        (history(65, 0, 0), 8, None, None),
+        (small.update(&[&good[..], &aspa(3, 2, &[])].concat()).unwrap_err(), 9, None, None),
+        (construct(b"", &long, Serial(0), out).unwrap_err(), 10, Some(2), None),
+        (history(1, SNAPSHOT_LIMIT + 1, 0), 10, Some(1), None),
+        (history(1, 0, DELTA_LIMIT + 1), 10, Some(2), None),
+    ] {
+        assert_eq!(
+            (refusal.number(), refusal.argument(), refusal.offset()),
+            (number, argument, offset),
+            "{refusal}"
+        );
+    }
+}
+
+#[test]
+fn refusal_in_words() {
+    let refusal = Refusal::OutOfOrder { argument: 2, offset: 26 };
+    assert_eq!(refusal.to_string(), "argument 2: the field at 26 does not stand above the one before it");
+}
+
+#[test]
+fn a_history() {
+    let mut history = History::new(0x1_0002, 2, 100, 100).unwrap();
+    assert!(!history.ready());
+    assert_eq!(history.full().unwrap().snapshot, b"");
+    let snapshots: Vec<_> = (1..=4).map(|p| aspa(3, 1, &[p])).collect();
+
+    assert_eq!(history.update(&snapshots[0]), Ok(Updated::First));
+    assert!(history.ready());
+    assert_eq!(history.update(&snapshots[0]), Ok(Updated::Unchanged));
+    for (i, snapshot) in snapshots.iter().enumerate().skip(1) {
+        let Ok(Updated::Changed(delta)) = history.update(snapshot) else { panic!("unchanged") };
+        assert_eq!(delta.serial, Serial(i as u32));
+    }
+    assert_eq!(history.notify(), (Session(2), Serial(3)));
+    let full = history.full().unwrap();
+    assert_eq!((full.session, full.serial), (Session(2), Serial(3)));
+    assert_eq!(full.snapshot, snapshots[3]);
+    assert_eq!(history.state().n, 2);
+
+    let mut out = [0; 64];
+    let served = history.query(Session(2), Serial(2), &mut out).unwrap();
+    assert_eq!((served.session, served.delta.serial, served.delta.announced), (Session(2), Serial(3), 1));
+    assert_eq!(history.query(Session(2), Serial(3), &mut out).unwrap().delta.length, 0);
+    assert_eq!(history.query(Session(2), Serial(1), &mut out), Err(Refusal::NotServed));
+}
+
+#[test]
+fn intervals() {
+    let most = timing(Timing { refresh: u32::MAX, retry: u32::MAX, expire: u32::MAX });
+    assert_eq!(most, Timing { refresh: 86_400, retry: 7_200, expire: 172_800 });
+}
