@@ -45,7 +45,7 @@ use Rattle.delta.specs.declared.walk.Output.the-variants.{NoRoom, Writte
 use Rattle.delta.specs.declared.construct.Constructed.the-variants as constructed
 use Rattle.delta.specs.declared.merge.Merged.the-variants as merged
 use Rattle.delta.specs.declared.apply.Applied.the-variants as applied
-use Rattle.delta.specs.Admission.{andThen, limitOf, judgedOf, refusalOf, admitOf}
+use Rattle.delta.specs.Admission.{Inputs, andThen, limitOf, judgedOf, refusalOf, admitOf}
 use Rattle.delta.specs.Reading.{formOf, Ready}
 use Rattle.delta.specs.Write.{cellAs, writes, plusAll, zero}
 use Rattle.delta.specs.Walk.{Runs, mergedAs, outputOf, wholeOut}
@@ -70,12 +70,6 @@ judged-yes : (n : ℕ) (v : Verdict) → refusalOf n v ≡ Yes → v ≡ verdict
 judged-yes n verdict.Fine e = refl
 judged-yes n (verdict.Bad at) e = absurd (let z : _≡_ {A = ℕ} 0 1 = cc in omega arith)
 judged-yes n (verdict.NotAbove at) e = absurd (let z : _≡_ {A = ℕ} 0 1 = cc in omega arith)
-
-pub record Inputs (f : Form) (a : Bytes) (g : Form) (b : Bytes) : Type 0 where
-  pub short-a : length a ≤ limit f
-  pub short-b : length b ≤ limit g
-  pub fine-a : verdict f a ≡ verdict.Fine
-  pub fine-b : verdict g b ≡ verdict.Fine
 
 pub admitted-inputs : (f : Form) (a : Bytes) (g : Form) (b : Bytes) → admitOf f a g b ≡ Yes → Inputs f a g b
 admitted-inputs f a g b e =

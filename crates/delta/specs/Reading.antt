@@ -13,7 +13,7 @@ use Rattle.field.specs.declared.tag.Action.{Action}
 use Rattle.field.specs.declared.tag.Action.the-variants as action
 use Rattle.field.specs.Number.{twoAt}
 use Rattle.field.specs.Cells.{Cell, cells}
-use Rattle.field.proofs.Walk.{GoodAt}
+use Rattle.field.specs.Run.{GoodAt}
 use Rattle.payload.specs.Content.{Bytes, entryOf}
 use Rattle.payload.specs.Payload.{items, changes}
 use Rattle.delta.specs.declared.place.Part.{Part}

@@ -19,7 +19,8 @@ use Rattle.field.specs.Head.{whole, front}
 use Rattle.field.specs.Verdict.{verdict}
 use Rattle.field.specs.Cells.{Cell, cellKey, cells, field, encode}
 use Rattle.field.proofs.Fronts.{opens}
-use Rattle.field.proofs.Run.{Run, done, more, cells-end, cells-more, fine-run, run-verdict}
+use Rattle.field.specs.Run.{AllBytes, Run, done, more}
+use Rattle.field.proofs.Run.{cells-end, cells-more, fine-run, run-verdict}
 
 -- a field is read as it was written
 pub front-field : (tag : ℕ) (b s : List ℕ) → front (field tag b ++ s) ≡ whole tag b s
@@ -62,10 +63,6 @@ pub fine-ascent : (form : Form) (s : List ℕ) → verdict form s ≡ Fine → A
 fine-ascent form s e = run-ascent form (fine-run form s e)
 
 -- ---- bytes
-
--- each element is a byte
-abbrev pub AllBytes : List ℕ → Type 0
-AllBytes s = (i : ℕ) → getD s i 0 < 256
 
 split-high : (h l n : ℕ) → l < 256 → h * 256 + l ≡ n → n / 256 ≡ h
 split-high h l n k e = omega arith

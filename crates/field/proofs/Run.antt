@@ -15,6 +15,7 @@ use Rattle.field.specs.Tag.{goodBody, kindOf}
 use Rattle.field.specs.Head.{Front, end, cut, whole, front}
 use Rattle.field.specs.Key.{keyOf}
 use Rattle.field.specs.Verdict.{isLess, judge, verdictF, verdict}
+use Rattle.field.specs.Run.{Run, done, more}
 use Rattle.field.specs.Cells.{Cell, cellsF, cells}
 use Rattle.field.proofs.Fronts.{front-end, shorter, end≢whole, cut≢whole}
 
@@ -66,12 +67,7 @@ cells-more s tag b rest e =
     agree (length s) (suc (length s)) s (omega arith) (omega arith)
     ∙ rw e (ap (λ (cs : List Cell). record { tag = tag; body = b } ∷ cs) (agree (length s) (length rest) rest (omega arith) (omega arith)))
 
--- ---- a good run of fields, behind the key k
-
-pub data Run (form : Form) : List ℕ → List ℕ → Type 0 where
-  done : {k : List ℕ} → Run form k []
-  more : {k s : List ℕ} (tag : ℕ) (b rest : List ℕ) → front s ≡ whole tag b rest → goodBody form tag b ≡ true
-      → bytes k (keyOf (kindOf form tag) b) ≡ Less → Run form (keyOf (kindOf form tag) b) rest → Run form k s
+-- ---- a good run of fields
 
 -- two verdicts that differ
 bad≢fine : {X : Type 0} {at : ℕ} → Bad at ≡ Fine → X

@@ -17,12 +17,8 @@ use Rattle.field.specs.Cells.{cells}
 use Rattle.field.specs.Places.{part, fieldAt}
 use Rattle.field.proofs.Fields.{end-at, cut-at, whole-at, body-ordered, body-within, field-long, field-less}
 use Rattle.field.proofs.Keys.{key-fits}
-use Rattle.field.proofs.Run.{Run, fine-run, cells-at-end, cells-more, run-cut, run-whole}
-
--- the bytes of s from `at` on are a good run, behind some key
-pub record GoodAt (form : Form) (s : List ℕ) (at : ℕ) : Type 0 where
-  pub before : List ℕ
-  pub run : Run form before (drop at s)
+use Rattle.field.specs.Run.{Run, GoodAt}
+use Rattle.field.proofs.Run.{fine-run, cells-at-end, cells-more, run-cut, run-whole}
 
 pub good-start : (form : Form) (s : List ℕ) → verdict form s ≡ Fine → GoodAt form s 0
 good-start form s e = record { before = 0 ∷ []; run = fine-run form s e }

@@ -7,4 +7,5 @@ pub mod Head
 pub mod Key
 pub mod Verdict
 pub mod Cells
+pub mod Run
 pub mod Places

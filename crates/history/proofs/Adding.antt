@@ -18,8 +18,7 @@ use Rattle.payload.specs.Limit.{limit}
 use Rattle.delta.specs.declared.refusal.Refusal.the-variants.{TooLong}
 use Rattle.delta.specs.declared.admit.Admitted.{Admitted}
 use Rattle.delta.specs.declared.admit.Admitted.the-variants.{Yes, No}
-use Rattle.delta.specs.Admission.{refusalOf, andThen, admitOneOf}
-use Rattle.delta.proofs.Answering.{Inputs}
+use Rattle.delta.specs.Admission.{Inputs, refusalOf, andThen, admitOneOf}
 use Rattle.delta.proofs.Places.{drop-take}
 use Rattle.past.specs.declared.state.History.{History}
 use Rattle.history.specs.declared.push.Kept.{Kept}

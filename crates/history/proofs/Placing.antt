@@ -15,7 +15,8 @@ use Rattle.change.proofs.Chain.{all-drop}
 use Rattle.field.specs.declared.tag.Form.the-variants.{Delta}
 use Rattle.field.specs.Head.{Front, end, cut, whole, front}
 use Rattle.field.specs.Cells.{Cell, cells, cellsF, cellsAt}
-use Rattle.field.proofs.Walk.{GoodAt, good-start}
+use Rattle.field.specs.Run.{GoodAt}
+use Rattle.field.proofs.Walk.{good-start}
 use Rattle.payload.specs.Content.{Bytes, entryOf}
 use Rattle.payload.specs.Payload.{entries, changes}
 use Rattle.payload.proofs.Faithful.{faithful}

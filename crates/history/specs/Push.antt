@@ -14,7 +14,7 @@ use Rattle.delta.specs.declared.refusal.Refusal.the-variants.{IllFormed}
 use Rattle.delta.specs.declared.sink.Counts.{Counts}
 use Rattle.delta.specs.Admission.{admitOneOf}
 use Rattle.delta.specs.Answer.{differenceOf, countsOf}
-use Rattle.delta.proofs.Answering.{Inputs}
+use Rattle.delta.specs.Admission.{Inputs}
 use Rattle.past.specs.declared.state.History.{History}
 use Rattle.history.specs.declared.push.Kept.{Kept}
 use Rattle.past.specs.declared.update.Updated.{Updated}

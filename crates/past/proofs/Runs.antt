@@ -23,7 +23,7 @@ use Rattle.serial.specs.declared.Session.{Session}
 use Rattle.serial.specs.Serial.{distanceOf, sessionOf}
 use Rattle.serial.proofs.Steps.{same-serial}
 use Rattle.field.specs.declared.tag.Form.the-variants.{Snapshot, Delta}
-use Rattle.field.proofs.Encode.{AllBytes}
+use Rattle.field.specs.Run.{AllBytes}
 use Rattle.payload.specs.Content.{Bytes}
 use Rattle.payload.specs.Payload.{encode, items, changes}
 use Rattle.payload.specs.Limit.{limit}

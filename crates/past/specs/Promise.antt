@@ -12,7 +12,7 @@ use Rattle.change.specs.History.{newest}
 use Rattle.serial.specs.declared.Serial.{Serial}
 use Rattle.serial.specs.declared.Session.{Session}
 use Rattle.serial.specs.Serial.{distanceOf, sessionOf}
-use Rattle.field.proofs.Encode.{AllBytes}
+use Rattle.field.specs.Run.{AllBytes}
 use Rattle.payload.specs.Content.{Bytes}
 use Rattle.payload.specs.Payload.{items, changes}
 use Rattle.delta.specs.declared.refusal.Refusal.the-variants.{OtherSession, NotServed, IllFormed}

@@ -13,7 +13,7 @@ use Rattle.field.specs.Tag.{tagOf, kindOf, goodBody}
 use Rattle.field.specs.Key.{keyOf}
 use Rattle.field.specs.Aspa.{goodAspa, goodUpdate, formerSize, formerOf, newOf}
 use Rattle.field.specs.Cells.{Cell}
-use Rattle.field.proofs.Encode.{AllBytes}
+use Rattle.field.specs.Run.{AllBytes}
 use Rattle.field.proofs.Sizes.{aspa-parts, UpdateParts, update-parts}
 use Rattle.payload.specs.Content.{Bytes, countOf, entryOf, cellFor}
 use Rattle.payload.specs.Valid.{ValidValue, ValidChange, Valid, origin, routerKey, aspa, announced, withdrawn, updated}

@@ -12,7 +12,8 @@ use Rattle.field.specs.declared.tag.Form.the-variants.{Delta}
 use Rattle.field.specs.declared.verdict.Verdict.the-variants.{Fine}
 use Rattle.field.specs.Verdict.{verdict}
 use Rattle.field.specs.Cells.{cells}
-use Rattle.field.proofs.Encode.{AllBytes, cells-encode}
+use Rattle.field.specs.Run.{AllBytes}
+use Rattle.field.proofs.Encode.{cells-encode}
 use Rattle.payload.specs.Content.{Bytes, digit, cellFor}
 use Rattle.payload.specs.Payload.{encode, changes}
 use Rattle.payload.specs.Count.{isAnnounced, isWithdrawn, countTags, announced, withdrawn, announces, withdraws, sumOf}

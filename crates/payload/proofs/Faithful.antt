@@ -18,8 +18,9 @@ use Rattle.field.specs.Head.{front, whole}
 use Rattle.field.specs.Verdict.{verdict}
 use Rattle.field.specs.Cells.{Cell, cells, field}
 use Rattle.field.specs.Cells as run
-use Rattle.field.proofs.Run.{Run, done, more, fine-run, cells-end, cells-more}
-use Rattle.field.proofs.Encode.{AllBytes, Ascent, none, next, ascent-fine, cells-encode, encode-cells, field-front, rest-bytes}
+use Rattle.field.specs.Run.{AllBytes, Run, done, more}
+use Rattle.field.proofs.Run.{fine-run, cells-end, cells-more}
+use Rattle.field.proofs.Encode.{Ascent, none, next, ascent-fine, cells-encode, encode-cells, field-front, rest-bytes}
 use Rattle.payload.specs.Content.{Bytes, Content, entryOf, cellFor}
 use Rattle.payload.specs.Valid.{ValidValue, ValidChange, Valid, IsMap, origin, routerKey, aspa, announced, withdrawn, updated}
 use Rattle.payload.specs.Payload.{entries, encode}
