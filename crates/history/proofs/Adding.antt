@@ -1,14 +1,13 @@
 -- Laws of a delta that is added: what stays of the held ones, and what the stores and lengths become.
-use Prim.Native.Nat.{ℕ, zero, suc, _+_, _-_, _≤_, _<_}
+use Prim.Native.Nat.{ℕ, zero, suc, _+_, _-_, _≤_}
 use mathlib.Core.Path.{_≡_, refl, sym, ap, ap₂, _∙_}
 use mathlib.Core.List.{List, [], _∷_, _++_, map, append-assoc, append-nil}
 use mathlib.Core.Bool.{Bool, true, false, cond, _&&_}
 use native.Mathlib.Omega.{arith}
 use lib.Dec.{leb, eqb}
-use lib.ListN.{length, take, drop, replicate, length-take, length-drop, length-append, length-map}
+use lib.ListN.{length, take, drop, length-take, length-drop, length-append, length-map}
 use lib.Seq.{take-take, take-add, drop-drop}
-use borrow.Author.Tests.{leb-true, le-leb, lt-leb}
-use Rattle.field.specs.declared.tag.Form.{Form}
+use borrow.Author.Tests.{leb-true}
 use Rattle.field.specs.declared.tag.Form.the-variants.{Snapshot, Delta}
 use Rattle.field.specs.declared.verdict.Verdict.{Verdict}
 use Rattle.field.specs.declared.verdict.Verdict.the-variants as verdict
@@ -16,19 +15,17 @@ use Rattle.field.specs.Verdict.{verdict}
 use Rattle.payload.specs.Content.{Bytes}
 use Rattle.payload.specs.Limit.{limit}
 use Rattle.delta.specs.declared.refusal.Refusal.the-variants.{TooLong}
-use Rattle.delta.specs.declared.admit.Admitted.{Admitted}
 use Rattle.delta.specs.declared.admit.Admitted.the-variants.{Yes, No}
-use Rattle.delta.specs.Admission.{Inputs, refusalOf, andThen, admitOneOf}
+use Rattle.delta.specs.Admission.{refusalOf, andThen, admitOneOf}
 use Rattle.delta.proofs.Places.{drop-take}
 use Rattle.past.specs.declared.state.History.{History}
-use Rattle.history.specs.declared.push.Kept.{Kept}
 use Rattle.past.specs.Store.{total, cuts, joined, heldSnapshot, heldLengths, heldDeltas, lengthsOf, storeAfter}
 use Rattle.past.specs.WellFormed.{isFine, isGood, every, goodKeep, inRange, goodSerial, goodStart, wellFormed}
 use Rattle.history.specs.Check.{goodState, goodSnapshot, goodRuns, goodDeltas}
 use Rattle.past.specs.Update.{pushed, deltasWith, nextState}
-use Rattle.history.specs.Push.{between, dropsOf, keptOf, lengthsWith, grownOf, laid, Ranged, Compares, Renews}
+use Rattle.history.specs.Push.{between, dropsOf, lengthsWith, grownOf, laid, Ranged, Compares, Renews}
 use Rattle.past.proofs.Lists.{map-push}
-use Rattle.past.proofs.Store.{cuts-length, joined-length}
+use Rattle.past.proofs.Store.{joined-length}
 use Rattle.past.proofs.Steps.{admitted-fine}
 use Rattle.history.proofs.Forming.{formed-parts}
 use Rattle.history.proofs.Pushing.{drops-few}

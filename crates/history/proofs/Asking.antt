@@ -1,6 +1,6 @@
 -- Laws of the query.
 use Prim.Native.Nat.{ℕ, zero, suc, _-_, _≤_, _<_}
-use mathlib.Core.Path.{_≡_, refl, sym, ap, ap₂, _∙_}
+use mathlib.Core.Path.{_≡_, refl, sym, ap, _∙_}
 use mathlib.Core.List.{List, [], _∷_}
 use mathlib.Core.Bool.{Bool, true, false, not, cond, _&&_, _||_}
 use native.Mathlib.Omega.{arith}
@@ -26,15 +26,15 @@ use Rattle.delta.specs.declared.sink.Counts.{Counts}
 use Rattle.delta.specs.declared.walk.Output.{Output}
 use Rattle.delta.specs.declared.walk.Output.the-variants as output
 use Rattle.delta.specs.Admission.{andThen}
-use Rattle.delta.specs.Answer.{countsOf, outAfter}
+use Rattle.delta.specs.Answer.{outAfter}
 use Rattle.delta.specs.Walk.{outputOf, wholeOut}
 use Rattle.delta.proofs.Answering.{delta-room, delta-written, delta-out}
 use Rattle.past.specs.declared.state.History.{History}
 use Rattle.past.specs.declared.query.Answer.the-variants.{Served}
 use Rattle.past.specs.declared.query.Queried.{Queried}
-use Rattle.past.specs.Store.{total, cuts, heldLengths, heldDeltas}
+use Rattle.past.specs.Store.{total, heldLengths, heldDeltas}
 use Rattle.past.specs.WellFormed.{isFine, isGood, every, goodKeep, inRange, goodSerial, goodStart, goodStores, goodHeld, wellFormed}
-use Rattle.past.specs.Query.{isServed, isSession, passes, queryAdmitted, mergedLast, answerOf, refusedWith, servedWith, queryAt, queryOf, queryOut}
+use Rattle.past.specs.Query.{isServed, isSession, passes, queryAdmitted, mergedLast, refusedWith, queryAt, queryOf, queryOut}
 use Rattle.history.specs.Place.{IsFine, Stored, lastMerged}
 use Rattle.past.proofs.Served.{served-rule, rule-within}
 

@@ -1,8 +1,8 @@
 -- Laws of the changes at one key: of one run, and of all, merged.
 use Prim.Native.Nat.{ℕ, zero, suc, _+_, _-_, _≤_, _<_}
-use mathlib.Core.Path.{_≡_, refl, sym, ap, _∙_}
-use mathlib.Core.List.{List, [], _∷_, map, foldl}
-use mathlib.Core.Option.{Option, none, some}
+use mathlib.Core.Path.{_≡_, refl, sym, _∙_}
+use mathlib.Core.List.{List, map, foldl}
+use mathlib.Core.Option.{none, some}
 use native.Mathlib.Omega.{arith}
 use native.Mathlib.Decide.{ℕ-discrete}
 use lib.ListN.{length, getD, set, length-set}
@@ -10,10 +10,8 @@ use lib.Seq.{getD-set-same, getD-set-other}
 use Rattle.order.specs.declared.Ordering.{Ordering}
 use Rattle.order.specs.declared.Ordering.the-variants.{Less, Equal, Greater}
 use Rattle.order.specs.Comparison.{bytes}
-use Rattle.order.specs.Map.{Item, own}
-use Rattle.order.specs.Many.{first, past, pastOf}
+use Rattle.order.specs.Many.{first, past}
 use Rattle.order.proofs.Comparison.{strings}
-use Rattle.change.specs.Change.{Change}
 use Rattle.change.specs.Merge.{mergeAt, table}
 use Rattle.change.proofs.Tables.{none-merge}
 use Rattle.field.specs.declared.key.Key.{Key}
@@ -25,9 +23,9 @@ use Rattle.delta.specs.declared.place.Held.the-variants.{Nothing, Is}
 use Rattle.delta.specs.declared.place.Entry.{Entry}
 use Rattle.delta.specs.declared.reading.Read.{Read}
 use Rattle.delta.specs.declared.reading.Read.the-variants.{End, One}
-use Rattle.delta.specs.Place.{changeIn, itemIn, heldIn, ActFits, KeyIn, Holds}
+use Rattle.delta.specs.Place.{changeIn, heldIn, ActFits, KeyIn, Holds}
 use Rattle.history.specs.declared.gather.Took.{Took}
-use Rattle.history.specs.Cursor.{D, run, runsN, runs, Stands, Within, EntryFits, Heads, HeldAt, Taken, Gathered}
+use Rattle.history.specs.Cursor.{run, runsN, runs, Stands, Within, Heads, HeldAt, Taken, Gathered}
 use Rattle.history.proofs.Lowering.{head-end, head-is, head-fits, head-key, runs-cons, runs-nil}
 
 -- ---- join

@@ -1,12 +1,12 @@
 -- Laws of the two lent stores.
 use Prim.Native.Nat.{ℕ, suc, _+_, _-_, _≤_, _<_}
 use mathlib.Core.Path.{_≡_, refl, sym, ap, _∙_}
-use mathlib.Core.List.{List, [], _∷_, _++_, append-nil}
+use mathlib.Core.List.{[], _∷_, _++_, append-nil}
 use native.Mathlib.Omega.{arith}
 use native.Mathlib.Nat.{zero-add}
 use lib.ListN.{length, getD, take, drop, set, length-set, length-take, length-drop, length-append, take-append-drop, drop-of-length-le}
 use lib.Seq.{sets, sets-eq, drop-cons, drop-drop, drop-set-lt, getD-drop, take-length, take-all, take-at, drop-at}
-use Rattle.field.specs.declared.tag.Form.the-variants.{Snapshot, Delta}
+use Rattle.field.specs.declared.tag.Form.the-variants.{Delta}
 use Rattle.payload.specs.Content.{Bytes}
 use Rattle.payload.specs.Payload.{encode}
 use Rattle.delta.specs.declared.reading.Reading.the-variants.{Withdrawn, Announced}

@@ -1,27 +1,25 @@
 -- Laws of the least key: of one run, and of all.
-use Prim.Native.Nat.{ℕ, zero, suc, _+_, _-_, _≤_, _<_}
-use mathlib.Core.Path.{_≡_, refl, sym, ap, _∙_}
-use mathlib.Core.List.{List, [], _∷_, map, foldl}
+use Prim.Native.Nat.{ℕ, suc, _+_, _-_, _≤_, _<_}
+use mathlib.Core.Path.{_≡_, refl, sym}
+use mathlib.Core.List.{List, [], _∷_, foldl}
 use mathlib.Core.Option.{Option, none, some}
 use native.Mathlib.Omega.{arith}
 use native.Mathlib.Numerals.{add-one}
-use lib.ListN.{length, getD}
+use lib.ListN.{getD}
 use Rattle.order.specs.declared.Ordering.{Ordering}
 use Rattle.order.specs.declared.Ordering.the-variants.{Less, Equal, Greater}
 use Rattle.order.specs.Comparison.{bytes}
-use Rattle.order.specs.Map.{Item}
 use Rattle.order.specs.Many.{lower, lowerOf, least}
-use Rattle.change.specs.Change.{Change}
 use Rattle.field.specs.declared.key.Key.{Key}
 use Rattle.field.specs.Places.{KeyFits, keyIn}
 use Rattle.payload.specs.Content.{Bytes}
 use Rattle.delta.specs.declared.place.Entry.{Entry}
 use Rattle.delta.specs.declared.reading.Read.{Read}
 use Rattle.delta.specs.declared.reading.Read.the-variants.{End, One}
-use Rattle.delta.specs.Place.{itemIn, KeyIn}
+use Rattle.delta.specs.Place.{itemIn}
 use Rattle.history.specs.declared.least.Found.{Found}
 use Rattle.history.specs.declared.least.Found.the-variants.{Nothing, At}
-use Rattle.history.specs.Cursor.{D, run, runsN, runs, Stands, Within, EntryFits, headIs, Heads, keyFound, FoundIn, Lowered, Least}
+use Rattle.history.specs.Cursor.{D, run, runsN, runs, Stands, Within, EntryFits, Heads, keyFound, FoundIn, Lowered, Least}
 
 -- ---- what a cursor stands at
 

@@ -1,11 +1,10 @@
 -- Laws of the places of the held deltas: the runs there are the deltas.
-use Prim.Native.Nat.{ℕ, zero, suc, _+_, _-_, _≤_, _<_, min}
+use Prim.Native.Nat.{ℕ, zero, suc, _+_, _-_, _≤_, _<_}
 use mathlib.Core.Path.{_≡_, refl, sym, ap, ap₂, _∙_}
 use mathlib.Core.List.{List, [], _∷_, map}
 use native.Mathlib.Omega.{arith}
-use native.Mathlib.Numerals.{add-one}
 use native.Mathlib.Decide.{ℕ-discrete}
-use lib.ListN.{length, getD, take, drop, set, replicate, length-set, length-take, length-drop, length-map, length-replicate}
+use lib.ListN.{length, getD, take, drop, set, length-set, length-take, length-drop, length-map}
 use lib.Seq.{take-nil, take-take, drop-cons, drop-drop, getD-take, getD-set-same, getD-set-other}
 use Rattle.order.specs.Comparison.{bytes}
 use Rattle.order.specs.Map.{All, Sorted}
@@ -14,20 +13,17 @@ use Rattle.change.specs.History.{lastN}
 use Rattle.change.proofs.Chain.{all-drop}
 use Rattle.field.specs.declared.tag.Form.the-variants.{Delta}
 use Rattle.field.specs.Head.{Front, end, cut, whole, front}
-use Rattle.field.specs.Cells.{Cell, cells, cellsF, cellsAt}
-use Rattle.field.specs.Run.{GoodAt}
+use Rattle.field.specs.Cells.{cells, cellsF, cellsAt}
 use Rattle.field.proofs.Walk.{good-start}
 use Rattle.payload.specs.Content.{Bytes, entryOf}
 use Rattle.payload.specs.Payload.{entries, changes}
 use Rattle.payload.proofs.Faithful.{faithful}
 use Rattle.delta.specs.declared.walk.Output.{Output}
-use Rattle.delta.specs.declared.reading.Reading.the-variants.{Changes}
-use Rattle.delta.specs.Reading.{Ready}
 use Rattle.delta.specs.Walk.{outputOf, wholeOut}
 use Rattle.delta.proofs.Places.{drop-take}
 use Rattle.history.specs.declared.place.Places.{Places}
 use Rattle.past.specs.Store.{total, cuts}
-use Rattle.history.specs.Cursor.{D, run, runsN, runs, leftOf, itemsIn, itemsLeft, Stands, Within, Walks, Bounded}
+use Rattle.history.specs.Cursor.{D, run, runsN, runs, leftOf, itemsIn, itemsLeft, Stands, Bounded}
 use Rattle.history.specs.Place.{Summed, Placed, IsFine, Stored, lastMerged}
 use Rattle.past.proofs.Lists.{all-map}
 use Rattle.past.proofs.Store.{cuts-length}

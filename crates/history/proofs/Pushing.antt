@@ -1,6 +1,6 @@
 -- Laws of the lengths of the held deltas.
 use Prim.Native.Nat.{ℕ, zero, suc, _+_, _-_, _*_, _^_, _≤_, _<_}
-use mathlib.Core.Path.{_≡_, refl, sym, ap, _∙_}
+use mathlib.Core.Path.{_≡_, refl, sym, _∙_}
 use mathlib.Core.List.{List, [], _∷_, _++_}
 use mathlib.Core.Bool.{Bool, true, false, cond}
 use native.Mathlib.Omega.{arith}
@@ -13,7 +13,6 @@ use Rattle.delta.proofs.Sinking.{sets-append}
 use Rattle.serial.specs.declared.Serial.{Serial}
 use Rattle.serial.specs.Serial.{nextOf}
 use Rattle.past.specs.declared.state.History.{History}
-use Rattle.history.specs.declared.push.Kept.{Kept}
 use Rattle.past.specs.Store.{total}
 use Rattle.history.specs.Push.{between, dropsOf, keptOf, lengthsWith, grownOf, Ranged, Grows}
 

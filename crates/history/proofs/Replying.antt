@@ -1,10 +1,9 @@
 -- Laws of creation, the full answer and the notice.
 use Prim.Native.Nat.{ℕ}
-use mathlib.Core.Path.{_≡_, refl, sym, ap, _∙_}
-use mathlib.Core.List.{[]}
+use mathlib.Core.Path.{_≡_, refl}
 use mathlib.Core.Bool.{Bool, true, false, not}
 use lib.Dec.{leb}
-use lib.ListN.{length, replicate}
+use lib.ListN.{length}
 use borrow.Author.Tests.{not-true, not-false}
 use Rattle.serial.specs.declared.Session.{Session}
 use Rattle.serial.specs.Serial.{sessionOf}
@@ -17,10 +16,7 @@ use Rattle.delta.specs.declared.admit.Admitted.{Admitted}
 use Rattle.delta.specs.declared.admit.Admitted.the-variants.{Yes, No}
 use Rattle.past.specs.declared.state.History.{History}
 use Rattle.past.specs.declared.create.Creation.the-variants as creation
-use Rattle.past.specs.declared.create.Created.{Created}
 use Rattle.past.specs.declared.full.FullAnswer.the-variants as fulls
-use Rattle.past.specs.declared.full.Full.{Full}
-use Rattle.past.specs.declared.notify.Notice.{Notice}
 use Rattle.past.specs.WellFormed.{goodKeep, wellFormed}
 use Rattle.past.specs.Create.{freshOf, createAdmitted, createOf}
 use Rattle.past.specs.Full.{fullOf, notifyOf, readyOf}

@@ -1,26 +1,23 @@
 -- Laws of one cursor: what a run up to e reads as, by places of the store itself.
-use Prim.Native.Nat.{ℕ, _+_, _-_, _≤_, _<_}
-use mathlib.Core.Path.{_≡_, refl, sym, ap, ap₂, _∙_}
-use mathlib.Core.List.{List, [], _∷_}
+use Prim.Native.Nat.{ℕ, _-_, _≤_}
+use mathlib.Core.Path.{_≡_, ap, _∙_}
+use mathlib.Core.List.{_∷_}
 use native.Mathlib.Omega.{arith}
 use lib.ListN.{length, take, drop, length-take}
 use lib.Seq.{take-take, length-take-le}
-use Rattle.order.specs.Map.{Item}
-use Rattle.change.specs.Change.{Change}
 use Rattle.field.specs.declared.key.Key.{Key}
 use Rattle.field.specs.Places.{part, keyIn}
 use Rattle.payload.specs.Content.{Bytes}
 use Rattle.delta.specs.declared.place.Part.{Part}
 use Rattle.delta.specs.declared.place.Act.{Act}
 use Rattle.delta.specs.declared.place.Act.the-variants.{Announce, Withdraw, Update}
-use Rattle.delta.specs.declared.place.Entry.{Entry}
 use Rattle.delta.specs.declared.reading.Reading.the-variants.{Changes}
 use Rattle.delta.specs.declared.reading.Read.{Read}
 use Rattle.delta.specs.declared.reading.Read.the-variants.{End, One}
 use Rattle.delta.specs.Place.{partIn, changeIn, itemIn, PartFits, ActFits, KeyIn}
 use Rattle.delta.specs.Reading.{Reads}
 use Rattle.delta.proofs.Places.{drop-take}
-use Rattle.history.specs.Cursor.{run, Stands, EntryFits, HeadFits, headIs, Heads}
+use Rattle.history.specs.Cursor.{run, Stands, Heads}
 
 module _ (s : Bytes) (e : ℕ) where
   -- a part that ends at or before e

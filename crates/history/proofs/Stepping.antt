@@ -1,6 +1,6 @@
 -- Laws of the next item: one turn of the walk over the runs.
-use Prim.Native.Nat.{ℕ, suc, _+_, _-_, _≤_, _<_}
-use mathlib.Core.Path.{_≡_, refl, sym, ap, _∙_}
+use Prim.Native.Nat.{ℕ, suc, _≤_, _<_}
+use mathlib.Core.Path.{_≡_, refl, sym, _∙_}
 use mathlib.Core.List.{List, [], _∷_, map, foldl}
 use mathlib.Core.Option.{Option, none, some}
 use mathlib.Core.Logic.{_⊎_, inl, inr, ⊎-elim}
@@ -8,10 +8,10 @@ use native.Mathlib.Omega.{arith}
 use lib.ListN.{length}
 use Rattle.order.specs.declared.Ordering.{Ordering}
 use Rattle.order.specs.declared.Ordering.the-variants.{Less, Equal, Greater}
-use Rattle.order.specs.Comparison.{bytes, TotalOrder}
-use Rattle.order.specs.Map.{Item, All, Sorted}
+use Rattle.order.specs.Comparison.{bytes}
+use Rattle.order.specs.Map.{Item}
 use Rattle.order.specs.Walk.{emit}
-use Rattle.order.specs.Many.{lower, lowerOf, least, first, past, pastOf}
+use Rattle.order.specs.Many.{lower, lowerOf, least, past, pastOf}
 use Rattle.order.proofs.Comparison.{strings}
 use Rattle.order.proofs.Map.{none≢some}
 use Rattle.order.proofs.Many.{pasts-sorted, least-step, least-none}
@@ -23,10 +23,9 @@ use Rattle.payload.specs.Content.{Bytes}
 use Rattle.delta.specs.declared.place.Act.{Act}
 use Rattle.delta.specs.declared.place.Held.{Held}
 use Rattle.delta.specs.declared.place.Held.the-variants.{Nothing, Is}
-use Rattle.delta.specs.Place.{heldIn, KeyIn, ActFits, Holds}
+use Rattle.delta.specs.Place.{heldIn, KeyIn}
 use Rattle.history.specs.declared.least.Found.{Found}
 use Rattle.history.specs.declared.least.Found.the-variants as found
-use Rattle.history.specs.declared.next.Step.{Step}
 use Rattle.history.specs.declared.next.Step.the-variants as step
 use Rattle.history.specs.Cursor.{D, runs, leftOf, itemsIn, itemsLeft, Within, Walks, Least, Gathered, NextIs}
 

@@ -1,12 +1,12 @@
 -- Laws of an update.
-use Prim.Native.Nat.{ℕ, suc, _+_, _-_, _^_, _≤_, _<_}
-use mathlib.Core.Path.{_≡_, refl, sym, ap, ap₂, _∙_}
-use mathlib.Core.List.{List, [], map}
-use mathlib.Core.Bool.{Bool, true, false, not, cond, _&&_}
+use Prim.Native.Nat.{ℕ, _-_, _^_, _≤_, _<_}
+use mathlib.Core.Path.{_≡_, refl, sym, ap, _∙_}
+use mathlib.Core.List.{[], map}
+use mathlib.Core.Bool.{Bool, true, false, not, cond}
 use native.Mathlib.Omega.{arith}
 use lib.Dec.{leb, eqb}
 use lib.ListN.{length, take, drop, replicate}
-use borrow.Author.Tests.{not-true, not-false, le-leb, lt-leb, eq-eqb, ne-eqb}
+use borrow.Author.Tests.{not-true, not-false, le-leb, lt-leb, ne-eqb}
 use Rattle.field.specs.declared.tag.Form.the-variants.{Snapshot, Delta}
 use Rattle.payload.specs.Content.{Bytes}
 use Rattle.payload.specs.Payload.{encode}
@@ -16,7 +16,7 @@ use Rattle.delta.specs.declared.admit.Admitted.{Admitted}
 use Rattle.delta.specs.declared.admit.Admitted.the-variants.{Yes, No}
 use Rattle.delta.specs.declared.reading.Reading.the-variants.{Withdrawn, Announced}
 use Rattle.delta.specs.declared.sink.Counts.{Counts}
-use Rattle.delta.specs.Admission.{Inputs, admitOneOf}
+use Rattle.delta.specs.Admission.{admitOneOf}
 use Rattle.delta.specs.Write.{plusAll, zero}
 use Rattle.delta.specs.Walk.{Runs, mergedAs}
 use Rattle.delta.specs.Answer.{differenceOf, countsOf}
@@ -25,7 +25,7 @@ use Rattle.past.specs.declared.state.History.{History}
 use Rattle.history.specs.declared.push.Kept.{Kept}
 use Rattle.past.specs.declared.update.Update.the-variants as updates
 use Rattle.past.specs.declared.update.Updated.{Updated}
-use Rattle.past.specs.Store.{total, heldSnapshot, joined, storeAfter}
+use Rattle.past.specs.Store.{total, heldSnapshot, storeAfter}
 use Rattle.past.specs.WellFormed.{wellFormed}
 use Rattle.past.specs.Update.{Step, refuse, first, unchanged, add, deltasWith, firstStep, admittedStep, stepFor, updateAt, updateOf, snapshotsAt, updateSnapshots, deltasAt, updateDeltas}
 use Rattle.history.specs.Push.{between, dropsOf, keptOf, grownOf, laid, Ranged, Pushes, updateAdmitted, Judged, Grows, Compares, Accepts, Renews, Extends, Does, Stores, firstOf, firstStore}

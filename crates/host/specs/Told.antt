@@ -1,7 +1,5 @@
 -- What the calls on a history hand back.
-use Prim.Native.Nat.{ℕ}
 use Rattle.serial.specs.declared.Serial.{Serial}
-use Rattle.delta.specs.declared.sink.Counts.{Counts}
 use Rattle.past.specs.declared.create.Creation.{Creation}
 use Rattle.past.specs.declared.create.Creation.the-variants as creation
 use Rattle.past.specs.declared.create.Created.{Created}

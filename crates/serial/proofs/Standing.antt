@@ -7,7 +7,6 @@ use native.Mathlib.Omega.{arith}
 use lib.Dec.{ltb, eqb}
 use borrow.Author.Tests.{ltb-true, ltb-false, lt-ltb, le-ltb, eq-eqb, ne-eqb}
 use Rattle.serial.specs.declared.Serial.{Serial}
-use Rattle.serial.specs.declared.order.Standing.{Standing}
 use Rattle.serial.specs.declared.order.Standing.the-variants.{Equal, Before, After, Unordered}
 use Rattle.serial.specs.Serial.{nextOf, distanceOf}
 use Rattle.serial.specs.Rfc1982.{half, firstOf, standing}
