@@ -23,7 +23,8 @@ use Rattle.past.specs.Store.{total, cuts, joined, heldSnapshot, heldLengths, he
 use Rattle.past.specs.WellFormed.{isFine, isGood, every, goodKeep, inRange, goodSerial, goodStart, wellFormed}
 use Rattle.history.specs.Check.{goodState, goodSnapshot, goodRuns, goodDeltas}
 use Rattle.past.specs.Update.{pushed, deltasWith, nextState}
-use Rattle.history.specs.Push.{between, dropsOf, lengthsWith, grownOf, laid, Ranged, Compares, Renews}
+use Rattle.history.specs.Push.{between, dropsOf, lengthsWith, grownOf, laid, Ranged}
+use Rattle.history.specs.Stage.{Compares, Renews}
 use Rattle.past.proofs.Lists.{map-push}
 use Rattle.past.proofs.Store.{joined-length}
 use Rattle.past.proofs.Steps.{admitted-fine}
