@@ -1,6 +1,7 @@
 // Runs the cases that the file `cases` lists, and writes a line for each: what was called, the case's name, and the
-// answer, with whether the output behind it stayed as it was.
+// answer, with whether the output behind it stayed as it was. Then the same for the calls that the file `runs` lists.
 mod report;
+mod runs;
 mod text;
 
 use delta::apply::Applied;
@@ -152,9 +153,7 @@ fn line(text: &[u8], at: usize, a: &mut [u8], b: &mut [u8], out: &mut [u8]) {
         return;
     }
     let name = text::word_after(text, at);
-    report::write_word(text, at);
-    write(b" ");
-    report::write_word(text, name);
+    report::write_head(text, at, name);
     case(first, text, name, a, b, out);
     write(b"\n");
 }
@@ -172,18 +171,40 @@ fn lines(text: &[u8], a: &mut [u8], b: &mut [u8], out: &mut [u8]) {
     }
 }
 
-fn main() {
-    let path = b"cases";
+// The bytes of a file, put into text; how many there are.
+fn load(path: &[u8], text: &mut [u8]) -> usize {
     let fd = os::open_read(path);
     if fd < 0 {
         os::fail(path);
+        return 0;
+    }
+    let n = io::read_full(fd, text);
+    libc::close(fd);
+    n
+}
+
+fn cases(text: &mut [u8], a: &mut [u8], b: &mut [u8], out: &mut [u8]) {
+    let n = load(b"cases", text);
+    if text.len() < n {
         return;
     }
+    lines(&text[0..n], a, b, out);
+}
+
+fn histories(text: &mut [u8], snapshots: &mut [u8], deltas: &mut [u8], out: &mut [u8]) {
+    let n = load(b"runs", text);
+    if text.len() < n {
+        return;
+    }
+    let mut a = io::large_buffer();
+    runs::lines(&text[0..n], snapshots, deltas, &mut a, out);
+}
+
+fn main() {
     let mut text = io::large_buffer();
-    let n = io::read_full(fd, &mut text);
-    libc::close(fd);
     let mut a = io::large_buffer();
     let mut b = io::large_buffer();
     let mut out = io::large_buffer();
-    lines(&text[..n], &mut a, &mut b, &mut out);
+    cases(&mut text, &mut a, &mut b, &mut out);
+    histories(&mut text, &mut a, &mut b, &mut out);
 }

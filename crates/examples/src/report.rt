@@ -6,7 +6,15 @@ use delta::refusal::Refusal;
 use delta::sink::Counts;
 use field::verdict::Verdict;
 use libc::STDOUT_FILENO;
+use past::create::Creation;
+use past::full::Full;
+use past::full::FullAnswer;
+use past::query::Answer;
+use past::query::Queried;
+use past::state::History;
+use past::update::Update;
 use serial::Serial;
+use serial::Session;
 
 // Filled into the output before a call, to see what stays.
 const MARK: u8 = 0xa5;
@@ -30,6 +38,13 @@ pub fn write_word(text: &[u8], from: usize) {
         return;
     }
     write(&text[from..end]);
+}
+
+// What a line calls, and its name.
+pub fn write_head(text: &[u8], at: usize, name: usize) {
+    write_word(text, at);
+    write(b" ");
+    write_word(text, name);
 }
 
 fn wide(x: u8) -> u64 {
@@ -90,7 +105,7 @@ fn write_kept(out: &[u8], from: usize) {
 }
 
 // The answer of this length, and whether the output behind it is as it was.
-fn write_answer(out: &[u8], len: usize) {
+pub fn write_answer(out: &[u8], len: usize) {
     if out.len() < len {
         write(b" LONGER");
         return;
@@ -117,9 +132,127 @@ pub fn write_no_change(out: &[u8]) {
     write_kept(out, 0);
 }
 
-pub fn write_refusal(refusal: Refusal, out: &[u8]) {
+fn write_refused(refusal: Refusal) {
     write_number(b" refused ", wide(refusal.number()));
     write_number(b" argument ", wide(refusal.argument()));
     write_number(b" at ", refusal.offset() as u64);
+}
+
+pub fn write_refusal(refusal: Refusal, out: &[u8]) {
+    write_refused(refusal);
     write_kept(out, 0);
+}
+
+pub fn write_creation(answer: Creation) {
+    match answer {
+        Creation::Done => write(b" done"),
+        Creation::Refused(refusal) => write_refused(refusal),
+    }
+}
+
+fn write_counts(counts: Counts) {
+    write_number(b" announced ", counts.announced as u64);
+    write_number(b" withdrawn ", counts.withdrawn as u64);
+}
+
+fn write_changed(counts: Counts) {
+    write(b" changed");
+    write_counts(counts);
+    write_number(b" length ", counts.len as u64);
+}
+
+pub fn write_update(answer: Update) {
+    match answer {
+        Update::First => write(b" first"),
+        Update::Unchanged => write(b" unchanged"),
+        Update::Changed(counts) => write_changed(counts),
+        Update::Refused(refusal) => write_refused(refusal),
+    }
+}
+
+// The 16-bit session and the serial that an answer names.
+pub fn write_named(session: Session, serial: Serial) {
+    write_number(b" session ", session.0 as u64);
+    write_number(b" serial ", serial.0 as u64);
+}
+
+fn write_served(counts: Counts, out: &[u8]) {
+    write_counts(counts);
+    write_answer(out, counts.len);
+}
+
+pub fn write_query(got: Queried, out: &[u8]) {
+    let session = got.session;
+    let serial = got.serial;
+    let answer = got.answer;
+    write_named(session, serial);
+    match answer {
+        Answer::Refused(refusal) => write_refusal(refusal, out),
+        Answer::Served(counts) => write_served(counts, out),
+    }
+}
+
+// The start of the snapshot store.
+fn write_held(len: usize, snapshots: &[u8]) {
+    if snapshots.len() < len {
+        write(b" LONGER");
+        return;
+    }
+    write(b" ");
+    write_bytes(&snapshots[0..len]);
+}
+
+pub fn write_full(got: Full, snapshots: &[u8]) {
+    let session = got.session;
+    let serial = got.serial;
+    let answer = got.answer;
+    write_named(session, serial);
+    match answer {
+        FullAnswer::Refused(refusal) => write_refused(refusal),
+        FullAnswer::Held(len) => write_held(len, snapshots),
+    }
+}
+
+pub fn write_active(active: bool) {
+    if active {
+        write(b" active");
+        return;
+    }
+    write(b" inactive");
+}
+
+// A length that is held; of others, whether it is not 0.
+fn write_length(is_held: bool, len: u32) {
+    if is_held {
+        write_number(b" ", len as u64);
+        return;
+    }
+    if 0 < len {
+        write(b" STRAY");
+    }
+}
+
+fn write_lengths(lens: [u32; 64], n: usize) {
+    let mut i = 0;
+    while i < 64 {
+        write_length(i < n, lens[i]);
+        i += 1;
+    }
+}
+
+fn write_numbers(history: History) {
+    write_number(b" keep ", history.keep as u64);
+    write_active(history.active);
+    write_number(b" serial ", history.newest.0 as u64);
+    write_number(b" snapshot ", history.snapshot as u64);
+    write_number(b" deltas ", history.n as u64);
+}
+
+// The state of a history, with the lengths of its deltas, oldest first.
+pub fn write_state(history: History) {
+    write_number(b"; session ", history.session);
+    write_numbers(history);
+    write(b":");
+    let lens = history.deltas;
+    write_lengths(lens, history.n as usize);
 }

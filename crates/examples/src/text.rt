@@ -60,6 +60,17 @@ pub fn word_after(text: &[u8], from: usize) -> usize {
     end
 }
 
+// Where the word starts that is n words behind the one at from.
+pub fn nth(text: &[u8], from: usize, n: usize) -> usize {
+    let mut at = from;
+    let mut k = 0;
+    while k < n {
+        at = word_after(text, at);
+        k += 1;
+    }
+    at
+}
+
 // Where the line behind the one of from starts.
 pub fn line_after(text: &[u8], from: usize) -> usize {
     let mut at = from;
@@ -126,6 +137,12 @@ pub fn number_at(text: &[u8], from: usize) -> Number {
     Number { value, next: at }
 }
 
+// The number of the word n words behind the one at from; 0 if there is none.
+pub fn nth_number(text: &[u8], from: usize, n: usize) -> usize {
+    let found = number_at(text, nth(text, from, n));
+    found.value
+}
+
 // The sum of all bytes.
 pub fn sum(s: &[u8]) -> usize {
     let mut n = 0;
@@ -150,6 +167,16 @@ fn put_four(out: &mut [u8], i: usize, n: usize) {
     put(out, plus(i, 1), (n / 65536 % 256) as u8);
     put(out, plus(i, 2), (n / 256 % 256) as u8);
     put(out, plus(i, 3), (n % 256) as u8);
+}
+
+// The number of the last four bytes, one higher.
+pub fn ascend_last(s: &mut [u8]) {
+    if s.len() < 4 {
+        return;
+    }
+    let i = s.len() - 4;
+    let n = four_at(s, i);
+    put_four(s, i, plus(n, 1));
 }
 
 // The last byte before len, n times in all; the new length.
