@@ -76,23 +76,21 @@ good-value (aspa {k = k} {v = v} e h) = go k (is-four k e)
     go : (k : Bytes) → Four k → Good Snapshot (3 ∷ k) v
     go k (four a b c d) = record { good = good-aspa a b c d v h; back = refl }
 
+-- what a value's field is, the field of its announcement and of its withdrawal is too
+abbrev under : (Bytes → Change Bytes) → Item Bytes Bytes → Item Bytes (Change Bytes)
+under c x = item (x .key) (c (x .val))
+
 good-announce : {k n : Bytes} → ValidValue k n → Good Delta k (announce n)
 unfolding goodBody tagOf kindOf keyOf
-good-announce (origin {k = k} h) = record { good = rw append-nil h; back = item-path (ap (λ (l : Bytes). 1 ∷ l) (append-nil k)) refl }
-good-announce (routerKey {k = k} h) = record { good = rw append-nil h; back = item-path (ap (λ (l : Bytes). 2 ∷ l) (append-nil k)) refl }
-good-announce (aspa {k = k} {v = v} e h) = go k (is-four k e)
-  where
-    go : (k : Bytes) → Four k → Good Delta (3 ∷ k) (announce v)
-    go k (four a b c d) = record { good = good-aspa a b c d v h; back = refl }
+good-announce (origin h) = let g = good-value (origin h) in record { good = g .good; back = ap (under announce) (g .back) }
+good-announce (routerKey h) = let g = good-value (routerKey h) in record { good = g .good; back = ap (under announce) (g .back) }
+good-announce (aspa e h) = let g = good-value (aspa e h) in record { good = g .good; back = ap (under announce) (g .back) }
 
 good-withdraw : {k p : Bytes} → ValidValue k p → Good Delta k (withdraw p)
 unfolding goodBody tagOf kindOf keyOf
-good-withdraw (origin {k = k} h) = record { good = rw append-nil h; back = item-path (ap (λ (l : Bytes). 1 ∷ l) (append-nil k)) refl }
-good-withdraw (routerKey {k = k} h) = record { good = rw append-nil h; back = item-path (ap (λ (l : Bytes). 2 ∷ l) (append-nil k)) refl }
-good-withdraw (aspa {k = k} {v = v} e h) = go k (is-four k e)
-  where
-    go : (k : Bytes) → Four k → Good Delta (3 ∷ k) (withdraw v)
-    go k (four a b c d) = record { good = good-aspa a b c d v h; back = refl }
+good-withdraw (origin h) = let g = good-value (origin h) in record { good = g .good; back = ap (under withdraw) (g .back) }
+good-withdraw (routerKey h) = let g = good-value (routerKey h) in record { good = g .good; back = ap (under withdraw) (g .back) }
+good-withdraw (aspa e h) = let g = good-value (aspa e h) in record { good = g .good; back = ap (under withdraw) (g .back) }
 
 -- an ASPA's value has providers, whatever its customer
 providers : {k v : Bytes} → ValidValue (3 ∷ k) v → (length k ≡ 4) × (goodProviders v ≡ true)
