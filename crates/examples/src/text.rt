@@ -94,7 +94,7 @@ fn with_digit(n: usize, digit: u8) -> usize {
     if 4294967296 < n {
         return n;
     }
-    plus(n * 10, wide(digit))
+    n * 10 + wide(digit)
 }
 
 fn wide(x: u8) -> usize
