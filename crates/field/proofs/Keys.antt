@@ -1,13 +1,13 @@
 -- The place of a key, and the comparison of two keys.
 use Prim.Native.Nat.{ℕ, _+_, _-_, _<_, _≤_, min}
-use mathlib.Core.Path.{_≡_, refl, ap, sym}
-use mathlib.Core.List.{List, _∷_}
+use mathlib.Core.Path.{_≡_, refl, ap, sym, _∙_}
+use mathlib.Core.List.{List, [], _∷_}
 use mathlib.Core.Bool.{Bool, true, false, cond}
 use native.Mathlib.Decide.{decLe}
 use native.Mathlib.Omega.{arith}
 use borrow.Author.Tests.{eq-eqb, ne-eqb}
 use lib.Dec.{eqb}
-use lib.ListN.{length, take, drop, length-take}
+use lib.ListN.{length, take, drop, length-take, length-drop, drop-of-length-le}
 use lib.Seq.{take-take, take-all}
 use Rattle.order.specs.declared.Ordering.{Ordering}
 use Rattle.order.specs.declared.Ordering.the-variants.{Less, Greater}
@@ -26,8 +26,11 @@ module _ (kind from to : ℕ) where
   pub place-long : kind ≡ 3 → 4 < to - from → record { kind = kind; from = from; to = from + 4 } ≡ keyPlace kind from to
   place-long e h = ends (from + 4) (rw (eq-eqb kind 3 e) (omega arith))
 
-  pub place-short : kind ≡ 3 → from ≤ to → to - from ≤ 4 → record { kind = kind; from = from; to = to } ≡ keyPlace kind from to
+  pub place-short : kind ≡ 3 → from < to → to - from ≤ 4 → record { kind = kind; from = from; to = to } ≡ keyPlace kind from to
   place-short e k h = ends to (rw (eq-eqb kind 3 e) (omega arith))
+
+  pub place-none : kind ≡ 3 → to ≤ from → record { kind = kind; from = from; to = to } ≡ keyPlace kind from to
+  place-none e k = ends to (rw (eq-eqb kind 3 e) (omega arith))
 
   pub place-other : (kind ≡ 3 → ⊥) → record { kind = kind; from = from; to = to } ≡ keyPlace kind from to
   place-other n = ends to (rw (ne-eqb kind 3 n))
@@ -61,7 +64,27 @@ module _ (s : List ℕ) (kind from to : ℕ) (o : from ≤ to) (w : to ≤ lengt
     unfolding keyOf
     key-in = rw e (ap (λ (l : List ℕ). kind ∷ l) (cut-to (eqb kind 3)))
 
--- ---- key_compare: the kinds decide, or else the bytes
+-- ---- key_compare: the kinds decide, or else the bytes that lie within
+
+-- a place and what of it lies within stand for the same bytes
+within : (s : List ℕ) (from to f t : ℕ) → t ≡ min to (length s) → f ≡ min from t → part s f t ≡ part s from to
+within s from to f t p q =
+    elim (decLe from t) [
+      | yes h ↦ let e : f ≡ from = omega arith in
+          elim (decLe to (length s)) [
+            | yes k ↦ let d : t ≡ to = omega arith in rw (e, d)
+            | no k ↦ let d : t ≡ length s = omega arith in
+                rw (e, d)
+                (take-all (length s - from) (drop from s) (simp length-drop (omega arith))
+                ∙ sym (take-all (to - from) (drop from s) (simp length-drop (omega arith))))
+          ]
+      | no h ↦ let e : t - f ≡ 0 = omega arith in
+          elim (decLe to (length s)) [
+            | yes k ↦ let d : to - from ≡ 0 = omega arith in rw (e, d)
+            | no k ↦ let d : drop from s ≡ [] = drop-of-length-le s {i = from} (omega arith) in
+                rw e (sym (take-all (to - from) (drop from s) (simp length-drop (omega arith)) ∙ d))
+          ]
+    ]
 
 module _ (a b : List ℕ) (x y : Key) where
   pub kinds-less : x .kind < y .kind → Less ≡ bytes (keyIn a x) (keyIn b y)
@@ -70,8 +93,9 @@ module _ (a b : List ℕ) (x y : Key) where
   pub kinds-greater : y .kind < x .kind → Greater ≡ bytes (keyIn a x) (keyIn b y)
   kinds-greater h = rw (number-greater (x .kind) (y .kind) h)
 
-  pub kinds-same : (r : Ordering) → y .kind ≤ x .kind → x .kind ≤ y .kind → r ≡ bytes (part a (x .from) (x .to)) (part b (y .from) (y .to))
-      → r ≡ bytes (keyIn a x) (keyIn b y)
-  kinds-same r h k e = rw (number-equal (x .kind) (y .kind) (omega arith), e)
+  pub kinds-same : (r : Ordering) (f t g u : ℕ) → y .kind ≤ x .kind → x .kind ≤ y .kind → t ≡ min (x .to) (length a) → f ≡ min (x .from) t
+      → u ≡ min (y .to) (length b) → g ≡ min (y .from) u → r ≡ bytes (part a f t) (part b g u) → r ≡ bytes (keyIn a x) (keyIn b y)
+  kinds-same r f t g u h k p q m n e =
+      rw (number-equal (x .kind) (y .kind) (omega arith), e, within a (x .from) (x .to) f t p q, within b (y .from) (y .to) g u m n)
 
-pub ruleset keys = (place-long, place-short, place-other, kinds-less, kinds-greater, kinds-same)
+pub ruleset keys = (place-long, place-short, place-none, place-other, kinds-less, kinds-greater, kinds-same)

@@ -2,9 +2,9 @@
 use crate::compare::compare;
 use order::Ordering;
 ghost use mathlib.Core.Path.{_≡_};
-ghost use Prim.Native.Nat.{_≤_};
+ghost use Prim.Native.Nat.{min};
 ghost use Rattle.order.specs.Comparison.{bytes};
-ghost use Rattle.field.specs.Places.{KeyFits, keyIn, keyPlace};
+ghost use Rattle.field.specs.Places.{keyIn, keyPlace};
 
 // The place of a key: the number of its kind, and where its bytes lie.
 pub struct Key {
@@ -15,24 +15,34 @@ pub struct Key {
 
 // The key of a field whose body lies from `from` up to `to`.
 pub fn key_at(kind: u8, from: usize, to: usize) -> Key
-    requires { ⌜ from ≤ to ⌝ }
     ensures { λ r. ⌜ r ≡ keyPlace kind from to ⌝ }
 {
     if kind == 3 {
-        if 4 < to - from {
-            return Key {
-                kind,
-                from,
-                to: from + 4,
-            };
+        if from < to {
+            if 4 < to - from {
+                return Key {
+                    kind,
+                    from,
+                    to: from + 4,
+                };
+            }
         }
     }
     Key { kind, from, to }
 }
 
-// How key x of a stands to key y of b.
+// The lower of two places.
+fn lower(x: usize, y: usize) -> usize
+    ensures { λ r. ⌜ r ≡ min x y ⌝ }
+{
+    if x < y {
+        return x;
+    }
+    y
+}
+
+// How key x of a stands to key y of b. Of a place past the end only what lies within counts.
 pub fn key_compare(a: &[u8], x: Key, b: &[u8], y: Key) -> Ordering
-    requires { ⌜ KeyFits (now a) x × KeyFits (now b) y ⌝ }
     ensures { λ r. ⌜ r ≡ bytes (keyIn (now (a .entry)) x) (keyIn (now (b .entry)) y) ⌝ }
 {
     let p = x.kind;
@@ -43,9 +53,9 @@ pub fn key_compare(a: &[u8], x: Key, b: &[u8], y: Key) -> Ordering
     if q < p {
         return Ordering::Greater;
     }
-    let x_from = x.from;
-    let x_to = x.to;
-    let y_from = y.from;
-    let y_to = y.to;
+    let x_to = lower(x.to, a.len());
+    let x_from = lower(x.from, x_to);
+    let y_to = lower(y.to, b.len());
+    let y_from = lower(y.from, y_to);
     compare(&a[x_from..x_to], &b[y_from..y_to])
 }

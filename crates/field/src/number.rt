@@ -14,18 +14,23 @@ pub fn wide(x: u8) -> usize
     x as usize
 }
 
-// The two bytes at i as a number.
+// The two bytes at i as a number. A byte past the end counts as 0.
 pub fn two_at(s: &[u8], i: usize) -> usize
-    requires { ⌜ i + 2 ≤ length (now s) ⌝ }
     ensures { λ r. ⌜ (r ≡ twoAt (now (s .entry)) i) × (r < 65536) ⌝ }
 {
+    if s.len() <= i {
+        return 0;
+    }
     let high = wide(s[i]);
+    if s.len() - i < 2 {
+        return high * 256;
+    }
     let low = wide(s[i + 1]);
     high * 256 + low
 }
 
 // The four bytes at i as an AS number.
-pub fn asn_at(s: &[u8], i: usize) -> Asn
+pub(crate) fn asn_at(s: &[u8], i: usize) -> Asn
     requires { ⌜ i + 4 ≤ length (now s) ⌝ }
     ensures { λ r. ⌜ r ≡ asnAt (now (s .entry)) i ⌝ }
 {

@@ -9,6 +9,18 @@ returns c = search (keys, needs)
 returns-2 : tie.Need-returns-2
 returns-2 c = search (keys, needs)
 
+lower-requires : tie.Need-lower-requires
+lower-requires c κs = search (keys, needs)
+
+lower-requires-2 : tie.Need-lower-requires-2
+lower-requires-2 c κs = search (keys, needs)
+
+lower-requires-3 : tie.Need-lower-requires-3
+lower-requires-3 c κs = search (keys, needs)
+
+lower-requires-4 : tie.Need-lower-requires-4
+lower-requires-4 c κs = search (keys, needs)
+
 sub-compare : tie.Need-sub-compare
 sub-compare c = search (keys, needs)
 
@@ -39,6 +51,10 @@ key-compare-spec =
     (tie.spec
     returns
     returns-2
+    lower-requires
+    lower-requires-2
+    lower-requires-3
+    lower-requires-4
     sub-compare
     part-compare-start
     part-compare-end
