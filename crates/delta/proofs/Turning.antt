@@ -5,7 +5,7 @@ use Rattle.order.specs.declared.Ordering.{Ordering}
 use Rattle.order.specs.declared.Ordering.the-variants.{Less, Equal, Greater}
 use Rattle.order.specs.Comparison.{bytes, flip}
 use Rattle.order.proofs.Comparison.{strings}
-use Rattle.field.specs.Places.{KeyFits, keyIn}
+use Rattle.field.specs.Places.{keyIn}
 use Rattle.payload.specs.Content.{Bytes}
 use Rattle.delta.specs.declared.place.Entry.{Entry}
 use Rattle.delta.specs.declared.reading.Reading.{Reading}
@@ -15,14 +15,6 @@ use Rattle.delta.specs.declared.turn.Side.the-variants as side
 use Rattle.delta.specs.declared.turn.Turn.the-variants.{Over, Left, Right, Both}
 use Rattle.delta.specs.Reading.{Reads}
 use Rattle.delta.specs.Turn.{TurnIs}
-
--- the key of what was read lies in the run
-module _ (reading : Reading) (s : Bytes) (at : ℕ) (r : Read) (h : Reads reading s at r) (x : Entry) (e : r ≡ One x) where
-  pub entry-reads : Reads reading s at (One x)
-  entry-reads = rw e at h
-
-  pub entry-key : KeyFits s (x .key)
-  entry-key = (rw e at (h .fits)) .key .fits
 
 module _ (ra : Reading) (a : Bytes) (i : ℕ) (rb : Reading) (b : Bytes) (j : ℕ) (p : Read) (f : Reads ra a i p) where
   pub left-over : p ≡ End → TurnIs ra a i rb b j (Over side.Right)
@@ -48,4 +40,4 @@ module _ (ra : Reading) (a : Bytes) (i : ℕ) (rb : Reading) (b : Bytes) (j : �
       pub both-first : o ≡ Equal → TurnIs ra a i rb b j (Both x y)
       both-first d = record { is = (l, r, strings .same (keyIn a (x .key)) (keyIn b (y .key)) (sym c ∙ d)) }
 
-pub ruleset turning = (entry-key, left-over, right-over, left-first, right-first, both-first)
+pub ruleset turning = (left-over, right-over, left-first, right-first, both-first)

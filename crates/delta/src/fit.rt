@@ -95,7 +95,7 @@ fn fit_rest(delta: &[u8], from: usize) -> Fit
 }
 
 // The first item of a good delta that cannot be applied to a good snapshot.
-pub fn first_misfit(snapshot: &[u8], delta: &[u8]) -> Fit
+pub(crate) fn first_misfit(snapshot: &[u8], delta: &[u8]) -> Fit
     requires { ⌜ Ready Reading.Announced (now snapshot) 0 × Ready Reading.Changes (now delta) 0 ⌝ }
     ensures { λ r. ⌜ r ≡ fitOf (now (snapshot .entry)) (now (delta .entry)) ⌝ }
 {

@@ -21,7 +21,7 @@ pub enum Turn {
     Both(Entry, Entry),
 }
 
-pub fn take_turn(ra: Reading, a: &[u8], i: usize, rb: Reading, b: &[u8], j: usize) -> Turn
+pub(crate) fn take_turn(ra: Reading, a: &[u8], i: usize, rb: Reading, b: &[u8], j: usize) -> Turn
     requires { ⌜ Ready ra (now a) i × Ready rb (now b) j ⌝ }
     ensures { λ r. ⌜ TurnIs ra (now (a .entry)) i rb (now (b .entry)) j r ⌝ }
 {

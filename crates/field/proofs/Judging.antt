@@ -17,16 +17,15 @@ use Rattle.field.specs.declared.verdict.Verdict.the-variants.{Fine, Bad,
 use Rattle.field.specs.Tag.{goodBody, kindOf}
 use Rattle.field.specs.Head.{front}
 use Rattle.field.specs.Verdict.{judge, verdictF, verdict}
-use Rattle.field.specs.Places.{part, fieldAt, KeyFits, keyIn, keyPlace}
+use Rattle.field.specs.Places.{part, fieldAt, keyIn, keyPlace}
 use Rattle.field.proofs.Fields.{end-at, cut-at, whole-at, body-ordered, body-within, field-less}
-use Rattle.field.proofs.Keys.{key-fits, key-in}
+use Rattle.field.proofs.Keys.{key-in}
 
 -- what the check has found at `at`, behind the key k: the rest decides
 pub record Judged (form : Form) (s : List ℕ) (at : ℕ) (k : Key) : Type 0 where
   pub fuel : ℕ
   pub enough : length s - at < fuel
   pub within : at ≤ length s
-  pub key : KeyFits s k
   pub rest : verdictF form fuel at (keyIn s k) (drop at s) ≡ verdict form s
 
 pub judged-start : (form : Form) (s : List ℕ) → Judged form s 0 (record { kind = 0; from = 0; to = 0 })
@@ -36,7 +35,6 @@ judged-start form s =
       fuel = length s + 1;
       enough = omega arith;
       within = omega arith;
-      key = record { ordered = omega arith; within = omega arith };
       rest = refl;
     }
 
@@ -96,11 +94,7 @@ module _ (form : Form) (s : List ℕ) (at : ℕ) (k : Key) (j : Judged form s at
               fuel = n;
               enough = omega arith;
               within = w .within;
-              key = key-fits s kind from to (w .ordered) (w .within) key p;
               rest = rw (w .reads, ← g, not-false b t, ← m, ← i, ← l, u, size, d) at found;
             }
 
-  pub judged-key : KeyFits s k
-  judged-key = j .key
-
-pub ruleset judging = (judged-start, judged-end, judged-cut, judged-bad, judged-equal, judged-greater, judged-next, judged-key, field-less, body-ordered, body-within, key-fits)
+pub ruleset judging = (judged-start, judged-end, judged-cut, judged-bad, judged-equal, judged-greater, judged-next, field-less, body-ordered, body-within)

@@ -15,7 +15,7 @@ use Rattle.order.proofs.Comparison.{strings}
 use Rattle.change.specs.Merge.{mergeAt, table}
 use Rattle.change.proofs.Tables.{none-merge}
 use Rattle.field.specs.declared.key.Key.{Key}
-use Rattle.field.specs.Places.{KeyFits, keyIn}
+use Rattle.field.specs.Places.{keyIn}
 use Rattle.payload.specs.Content.{Bytes}
 use Rattle.delta.specs.declared.place.Act.{Act}
 use Rattle.delta.specs.declared.place.Held.{Held}
@@ -26,7 +26,7 @@ use Rattle.delta.specs.declared.reading.Read.the-variants.{End, One}
 use Rattle.delta.specs.Place.{changeIn, heldIn, ActFits, KeyIn, Holds}
 use Rattle.history.specs.declared.gather.Took.{Took}
 use Rattle.history.specs.Cursor.{run, runsN, runs, Stands, Within, Heads, HeldAt, Taken, Gathered}
-use Rattle.history.proofs.Lowering.{head-end, head-is, head-fits, head-key, runs-cons, runs-nil}
+use Rattle.history.proofs.Lowering.{head-end, head-is, head-fits, runs-cons, runs-nil}
 
 -- ---- join
 
@@ -76,10 +76,7 @@ module _ (s : Bytes) (held : Held) (i : HeldAt s held) (p e : ℕ) (st : Stands 
 pub head-act : (s : Bytes) (p e : ℕ) (r : Read) → Heads s p e r → (x : Entry) → r ≡ One x → ActFits s s (x .act)
 head-act s p e r h x q = head-fits s p e r h x q .act
 
-pub key-lies : (s : Bytes) (k : Key) → KeyIn s k → KeyFits s k
-key-lies s k f = f .fits
-
-pub ruleset taking = (head-key, head-act, key-lies, took-end, took-less, took-greater, took-equal)
+pub ruleset taking = (head-act, took-end, took-less, took-greater, took-equal)
 
 -- ---- gather: what is merged of the changes, with those that are left; each run that was asked is past the key
 

@@ -11,7 +11,7 @@ use Rattle.order.specs.declared.Ordering.the-variants.{Less, Equal, Greater}
 use Rattle.order.specs.Comparison.{bytes}
 use Rattle.order.specs.Many.{lower, lowerOf, least}
 use Rattle.field.specs.declared.key.Key.{Key}
-use Rattle.field.specs.Places.{KeyFits, keyIn}
+use Rattle.field.specs.Places.{keyIn}
 use Rattle.payload.specs.Content.{Bytes}
 use Rattle.delta.specs.declared.place.Entry.{Entry}
 use Rattle.delta.specs.declared.reading.Read.{Read}
@@ -34,17 +34,11 @@ module _ (s : Bytes) (p e : ℕ) (r : Read) (h : Heads s p e r) where
     pub head-fits : EntryFits s e x
     head-fits = rw q at (h .fits)
 
-    pub head-key : KeyFits s (x .key)
-    head-key = head-fits .key .fits
-
 -- ---- lower
 
 lower-with : (o : Option Bytes) (d : D) → d ≡ [] → lower bytes o d ≡ o
 lower-with none d q = rw q
 lower-with (some k) d q = rw q
-
-pub found-key : (s : Bytes) (f : Found) → FoundIn s f → (k : Key) → f ≡ At k → KeyFits s k
-found-key s f i k q = (rw q at (i .fits)) .fits
 
 module _ (s : Bytes) (best : Found) (i : FoundIn s best) (p e : ℕ) (r : Read) (h : Heads s p e r) where
   pub low-end : r ≡ End → Lowered s best p e best
@@ -67,7 +61,7 @@ module _ (s : Bytes) (best : Found) (i : FoundIn s best) (p e : ℕ) (r : Read) 
       pub low-equal : o ≡ Equal → Lowered s best p e (At k)
       low-equal d = lowered (At k) (rw b at i) (rw d)
 
-pub ruleset lowering = (head-key, found-key, low-end, low-first, low-new, low-less, low-equal)
+pub ruleset lowering = (low-end, low-first, low-new, low-less, low-equal)
 
 -- ---- the runs, one by one
 

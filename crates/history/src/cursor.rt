@@ -5,7 +5,7 @@ use delta::reading::read_at;
 ghost use Rattle.history.specs.Cursor.{Stands, Heads};
 
 // The item at p of a run that ends at e.
-pub fn item_at(store: &[u8], p: usize, e: usize) -> Read
+pub(crate) fn item_at(store: &[u8], p: usize, e: usize) -> Read
     requires { ⌜ Stands (now store) p e ⌝ }
     ensures { λ r. ⌜ Heads (now (store .entry)) p e r ⌝ }
 {

@@ -55,7 +55,7 @@ fn take(store: &[u8], held: Held, p: usize, e: usize, k: Key) -> Took
 }
 
 // What the runs from `from` up to n say of key k, merged; those that stand at it go past it.
-pub fn gather(
+pub(crate) fn gather(
     store: &[u8],
     at: &mut [usize; 64],
     ends: &[usize; 64],

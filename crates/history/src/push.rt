@@ -19,7 +19,7 @@ pub struct Kept {
 }
 
 // A length that fits the state.
-pub fn narrow(n: usize) -> u32
+pub(crate) fn narrow(n: usize) -> u32
     requires { ⌜ n < 2 ^ 32 ⌝ }
     ensures { λ r. ⌜ r ≡ n ⌝ }
 {
@@ -51,7 +51,7 @@ fn sum_lengths(lens: [u32; 64], from: usize, to: usize) -> usize
 }
 
 // The deltas that stay.
-pub fn kept_of(history: History) -> Kept
+pub(crate) fn kept_of(history: History) -> Kept
     requires { ⌜ Ranged history ⌝ }
     ensures { λ r. ⌜ r ≡ keptOf history ⌝ }
 {
@@ -79,7 +79,7 @@ fn push_length(lens: [u32; 64], first: usize, n: usize, len: u32) -> [u32; 64]
 }
 
 // The state once a snapshot and a delta of these lengths are held.
-pub fn grown(history: History, first: usize, snapshot: usize, delta: usize) -> History
+pub(crate) fn grown(history: History, first: usize, snapshot: usize, delta: usize) -> History
     requires { ⌜ Ranged history × ((first ≡ dropsOf history) × ((snapshot < 2 ^ 32) × (delta < 2 ^ 32))) ⌝ }
     ensures { λ r. ⌜ Grows history first snapshot delta r ⌝ }
 {

@@ -28,7 +28,7 @@ fn move_down(s: &mut [u8], from: usize, len: usize)
 }
 
 // The deltas that stay go to the start of their store, and the difference of two snapshots behind them.
-pub fn push_delta(old: &[u8], new: &[u8], from: usize, kept: usize, deltas: &mut [u8])
+pub(crate) fn push_delta(old: &[u8], new: &[u8], from: usize, kept: usize, deltas: &mut [u8])
     requires { ⌜ Pushes (now old) (now new) from kept (now deltas) ⌝ }
     ensures { λ r. ⌜ now (deltas .exit) ≡ laid from kept (differenceOf (now (old .entry)) (now (new .entry))) (now (deltas .entry)) ⌝ }
 {
@@ -44,7 +44,7 @@ pub fn push_delta(old: &[u8], new: &[u8], from: usize, kept: usize, deltas: &mut
 }
 
 // The new snapshot at the start of its store.
-pub fn hold(new: &[u8], snapshots: &mut [u8])
+pub(crate) fn hold(new: &[u8], snapshots: &mut [u8])
     requires { ⌜ length (now new) ≤ length (now snapshots) ⌝ }
     ensures { λ r. ⌜ now (snapshots .exit) ≡ storeAfter (now (new .entry)) (now (snapshots .entry)) ⌝ }
 {
