@@ -159,7 +159,14 @@ pub enum Output {
 }
 
 // The merge of two runs, if out has room for all of it; else nothing is written.
-pub(crate) fn put_whole(form: Form, ra: Reading, a: &[u8], rb: Reading, b: &[u8], out: &mut [u8]) -> Output
+pub(crate) fn put_whole(
+    form: Form,
+    ra: Reading,
+    a: &[u8],
+    rb: Reading,
+    b: &[u8],
+    out: &mut [u8],
+) -> Output
     requires { ⌜ Runs ra (now a) rb (now b) ⌝ }
     ensures { λ r. ⌜ (r ≡ outputOf form (mergedAs ra (now (a .entry)) rb (now (b .entry))) (length (now (out .entry)))) × (now (out .exit) ≡ wholeOut form (mergedAs ra (now (a .entry)) rb (now (b .entry))) (now (out .entry))) ⌝ }
 {

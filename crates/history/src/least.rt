@@ -31,7 +31,13 @@ fn lower(store: &[u8], best: Found, p: usize, e: usize) -> Found
 }
 
 // The least key of the runs from `from` up to n.
-pub(crate) fn least(store: &[u8], at: &[usize; 64], ends: &[usize; 64], from: usize, n: usize) -> Found
+pub(crate) fn least(
+    store: &[u8],
+    at: &[usize; 64],
+    ends: &[usize; 64],
+    from: usize,
+    n: usize,
+) -> Found
     requires { ⌜ Within (now store) (now at) (now ends) n ⌝ }
     ensures { λ r. ⌜ Least (now (store .entry)) (now (at .entry)) (now (ends .entry)) from n r ⌝ }
 {

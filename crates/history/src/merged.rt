@@ -70,7 +70,13 @@ fn put_whole(store: &[u8], places: Places, from: usize, n: usize, out: &mut [u8]
 }
 
 // The last d of the n deltas of these lengths, merged, earliest first.
-pub(crate) fn merged_last(store: &[u8], lengths: [u32; 64], n: usize, d: usize, out: &mut [u8]) -> Output
+pub(crate) fn merged_last(
+    store: &[u8],
+    lengths: [u32; 64],
+    n: usize,
+    d: usize,
+    out: &mut [u8],
+) -> Output
     requires { ⌜ Stored (now store) lengths n × (d ≤ n) ⌝ }
     ensures { λ r. ⌜ (r ≡ outputOf Delta (lastMerged (now (store .entry)) lengths n d) (length (now (out .entry)))) × (now (out .exit) ≡ wholeOut Delta (lastMerged (now (store .entry)) lengths n d) (now (out .entry))) ⌝ }
 {

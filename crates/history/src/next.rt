@@ -14,7 +14,13 @@ pub enum Step {
 }
 
 // The next item of the runs from `from` up to n, merged; keys of which nothing is left are passed over.
-pub(crate) fn next(store: &[u8], at: &mut [usize; 64], ends: &[usize; 64], from: usize, n: usize) -> Step
+pub(crate) fn next(
+    store: &[u8],
+    at: &mut [usize; 64],
+    ends: &[usize; 64],
+    from: usize,
+    n: usize,
+) -> Step
     requires { ⌜ Walks (now store) (now at) (now ends) from n ⌝ }
     ensures { λ r. ⌜ NextIs (now (store .entry)) (now (at .entry)) (now (at .exit)) (now (ends .entry)) from n r ⌝ }
 {
