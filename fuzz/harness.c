@@ -6,20 +6,13 @@
  * the answer and what was written are what rules.h says; a refusal has changed no byte; on
  * success the output past the answer is unchanged.
  */
-#include "rules.h"
+#define _GNU_SOURCE
+#include <stdio.h>
+#include <stdlib.h>
+#include <sys/mman.h>
+#include <unistd.h>
 
-/* Declared here, so that the program can be compiled where only the freestanding headers are.
- * The constants are those of Linux. */
-extern void *mmap(void *, size_t, int, int, int, long);
-extern int memfd_create(const char *, unsigned);
-extern int ftruncate(int, long);
-extern int memcmp(const void *, const void *, size_t);
-extern void *memmove(void *, const void *, size_t);
-extern void *memset(void *, int, size_t);
-extern int printf(const char *, ...);
-extern int fflush(void *);
-extern _Noreturn void abort(void);
-enum { NO_ACCESS = 0, READ_ONLY = 1, READ_WRITE = 3, PRIVATE_ANONYMOUS = 0x22, SHARED_FIXED = 0x11 };
+#include "rules.h"
 
 int LLVMFuzzerTestOneInput(const uint8_t *data, size_t size);
 
@@ -32,7 +25,7 @@ int LLVMFuzzerTestOneInput(const uint8_t *data, size_t size);
         }                                                                                           \
     } while (0)
 
-/* What came of calls, as coverage: the archive has no counters of its own. */
+/* What came of calls, as coverage beside the branches. */
 __attribute__((used, section("__libfuzzer_extra_counters"))) uint8_t met[1 << 12];
 
 static unsigned size_class(uint64_t n)
@@ -73,9 +66,9 @@ static uint8_t scratch[4][ARENA];
 /* The arena behind a file, between two pages that cannot be touched. */
 static uint8_t *view(int file, int access)
 {
-    uint8_t *p = mmap(NULL, ARENA + 2 * PAGE, NO_ACCESS, PRIVATE_ANONYMOUS, -1, 0);
+    uint8_t *p = mmap(NULL, ARENA + 2 * PAGE, PROT_NONE, MAP_PRIVATE | MAP_ANONYMOUS, -1, 0);
     LAW((uintptr_t)p + 1 != 0);
-    LAW(mmap(p + PAGE, ARENA, access, SHARED_FIXED, file, 0) == p + PAGE);
+    LAW(mmap(p + PAGE, ARENA, access, MAP_SHARED | MAP_FIXED, file, 0) == p + PAGE);
     return p + PAGE;
 }
 
@@ -84,9 +77,9 @@ static void set_up(void)
     for (int i = 0; i < 3 && !before[i]; i++) {
         int file = memfd_create("arena", 0);
         LAW(file >= 0 && ftruncate(file, (long)ARENA) == 0);
-        read_only[i] = view(file, READ_ONLY);
-        writable[i] = view(file, READ_WRITE);
-        before[i] = mmap(NULL, ARENA, READ_WRITE, PRIVATE_ANONYMOUS, -1, 0);
+        read_only[i] = view(file, PROT_READ);
+        writable[i] = view(file, PROT_READ | PROT_WRITE);
+        before[i] = mmap(NULL, ARENA, PROT_READ | PROT_WRITE, MAP_PRIVATE | MAP_ANONYMOUS, -1, 0);
         LAW((uintptr_t)before[i] + 1 != 0);
     }
 }

@@ -1,14 +1,13 @@
 /*
  * Document 01's rules once more, in C: what is good, what a well-formed history is, difference,
- * merge and application. The library is held to these. Instrumented, they also tell the fuzzer
- * which rule an input got to, which the library, being an archive, cannot.
+ * merge and application. The library is held to these.
  */
 #ifndef RULES_H
 #define RULES_H
 
-#include "taplevung.h"
+#include <string.h>
 
-extern void *memcpy(void *, const void *, size_t);
+#include "taplevung.h"
 
 enum form { SNAPSHOT, DELTA };
 

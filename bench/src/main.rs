@@ -143,6 +143,23 @@ fn apply(data: Data, rounds: u32) -> Times {
     )
 }
 
+/// The library checks the history that it is lent: with no delta held, the full answer is the check of one snapshot.
+fn check(data: Data, rounds: u32) -> Times {
+    let held = Held::new(data, 1, 0);
+    let snapshot = &held.snapshots[..held.state.snapshot as usize];
+    let parts = [snapshot];
+    race(
+        rounds,
+        [
+            just(|| assert_eq!(raw::full(held.state, &held.snapshots, &held.deltas).answer.kind, 1)),
+            None,
+            None,
+            just(|| plain::check(false, snapshot)),
+            memcpy(&parts),
+        ],
+    )
+}
+
 /// A history of the library that holds `n` deltas.
 struct Held {
     state: raw::State,
@@ -284,6 +301,7 @@ fn main() {
     ] {
         let others = CONTENDERS[1..].join(" | ");
         write!(out, "### {name}\n\n| | {others} |\n|---|---|---|---|---|\n").expect("a string takes all");
+        row(&mut out, "check", &check(data, rounds));
         row(&mut out, "construct", &construct(data, rounds));
         row(&mut out, "merge", &merge(data, rounds));
         row(&mut out, "apply", &apply(data, rounds));
