@@ -23,9 +23,10 @@ use Rattle.delta.specs.declared.place.Held.the-variants.{Nothing, Is}
 use Rattle.delta.specs.declared.place.Entry.{Entry}
 use Rattle.delta.specs.declared.reading.Read.{Read}
 use Rattle.delta.specs.declared.reading.Read.the-variants.{End, One}
-use Rattle.delta.specs.Place.{changeIn, heldIn, ActFits, KeyIn, Holds}
-use Rattle.history.specs.declared.gather.Took.{Took}
-use Rattle.history.specs.Cursor.{run, runsN, runs, Stands, Within, Heads, HeldAt, Taken, Gathered}
+use Rattle.delta.specs.Place.{changeIn, heldIn, ActFits, Holds}
+use Rattle.history.specs.declared.gather.Said.{Said}
+use Rattle.history.specs.declared.gather.Said.the-variants as said
+use Rattle.history.specs.Cursor.{run, runsN, runs, Stands, Within, Heads, HeldAt, ChangeFits, Says, Gathered}
 use Rattle.history.proofs.Lowering.{head-end, head-is, head-fits, runs-cons, runs-nil}
 
 -- ---- join
@@ -43,40 +44,31 @@ module _ (s : Bytes) (h : Held) (a : Act) where
 
 pub ruleset joining = (join-first, join-fits, join-both)
 
--- ---- take
+-- ---- ask
 
-module _ (s : Bytes) (held : Held) (i : HeldAt s held) (p e : ℕ) (st : Stands s p e) (k : Key) (r : Read) (h : Heads s p e r) where
+module _ (s : Bytes) (p e : ℕ) (k : Key) (r : Read) (h : Heads s p e r) where
   -- nothing of the run has the key
-  took-none : first bytes (keyIn s k) (run s p e) ≡ none → past bytes (keyIn s k) (run s p e) ≡ run s p e →
-      Taken s held p e (keyIn s k) (record { held = held; at = p })
-  took-none f g = record {
-    holds = record { fits = i .fits; is = rw f (sym (none-merge strings (heldIn s s held))) };
-    stands = st;
-    gone = sym g;
-  }
+  none-said : first bytes (keyIn s k) (run s p e) ≡ none → past bytes (keyIn s k) (run s p e) ≡ run s p e → Says s p e (keyIn s k) said.Nothing
+  none-said f g = record { fits = tt; change = f; gone = sym g }
 
-  pub took-end : r ≡ End → Taken s held p e (keyIn s k) (record { held = held; at = p })
-  took-end q = let z = head-end s p e r h q in took-none (rw z) (rw z)
+  pub said-end : r ≡ End → Says s p e (keyIn s k) said.Nothing
+  said-end q = let z = head-end s p e r h q in none-said (rw z) (rw z)
 
   module _ (x : Entry) (q : r ≡ One x) (o : Ordering) (c : o ≡ bytes (keyIn s k) (keyIn s (x .key))) where
-    pub took-less : o ≡ Less → Taken s held p e (keyIn s k) (record { held = held; at = p })
-    took-less d = took-none (rw (head-is s p e r h x q, ← c, d)) (rw (head-is s p e r h x q, ← c, d))
+    pub said-less : o ≡ Less → Says s p e (keyIn s k) said.Nothing
+    said-less d = none-said (rw (head-is s p e r h x q, ← c, d)) (rw (head-is s p e r h x q, ← c, d))
 
-    pub took-greater : o ≡ Greater → Taken s held p e (keyIn s k) (record { held = held; at = p })
-    took-greater d = took-none (rw (head-is s p e r h x q, ← c, d)) (rw (head-is s p e r h x q, ← c, d))
+    pub said-greater : o ≡ Greater → Says s p e (keyIn s k) said.Nothing
+    said-greater d = none-said (rw (head-is s p e r h x q, ← c, d)) (rw (head-is s p e r h x q, ← c, d))
 
-    pub took-equal : o ≡ Equal → (t : Held) → Holds s s (mergeAt bytes (heldIn s s held) (some (changeIn s s (x .act)))) t →
-        Taken s held p e (keyIn s k) (record { held = t; at = x .next })
-    took-equal d t m = record {
-      holds = rw (head-is s p e r h x q, ← c, d) m;
-      stands = head-fits s p e r h x q .stands;
+    pub said-equal : o ≡ Equal → Says s p e (keyIn s k) (said.Change (x .act) (x .next))
+    said-equal d = record {
+      fits = record { act = head-fits s p e r h x q .act; stands = head-fits s p e r h x q .stands };
+      change = rw (head-is s p e r h x q, ← c, d);
       gone = rw (head-is s p e r h x q, ← c, d);
     }
 
-pub head-act : (s : Bytes) (p e : ℕ) (r : Read) → Heads s p e r → (x : Entry) → r ≡ One x → ActFits s s (x .act)
-head-act s p e r h x q = head-fits s p e r h x q .act
-
-pub ruleset taking = (head-act, took-end, took-less, took-greater, took-equal)
+pub ruleset asking = (said-end, said-less, said-greater, said-equal)
 
 -- ---- gather: what is merged of the changes, with those that are left; each run that was asked is past the key
 
@@ -93,18 +85,16 @@ pub record Gathering (s : Bytes) (at₀ ends : List ℕ) (from n : ℕ) (k : Key
   pub within : Within s at ends n
   pub same-long : length at ≡ length at₀
   pub inside : HeldAt s held
-  pub lies : KeyIn s k
   pub left : foldl (mergeAt bytes) (heldIn s s held) (map (first bytes (keyIn s k)) (runsN s at₀ ends r (n - r)))
       ≡ foldl (mergeAt bytes) none (map (first bytes (keyIn s k)) (runs s at₀ ends from n))
   pub kept : (j : ℕ) → r ≤ j → getD at j 0 ≡ getD at₀ j 0
   pub gone : (j : ℕ) → from ≤ j → j < r → run s (getD at j 0) (getD ends j 0) ≡ past bytes (keyIn s k) (run s (getD at₀ j 0) (getD ends j 0))
 
-pub gather-start : (s : Bytes) (at ends : List ℕ) (from n : ℕ) (k : Key) → Within s at ends n → KeyIn s k → Gathering s at ends from n k at Nothing from
-gather-start s at ends from n k w f = record {
+pub gather-start : (s : Bytes) (at ends : List ℕ) (from n : ℕ) (k : Key) → Within s at ends n → Gathering s at ends from n k at Nothing from
+gather-start s at ends from n k w = record {
   within = w;
   same-long = refl;
   inside = record { fits = tt };
-  lies = f;
   left = refl;
   kept = λ j h. refl;
   gone = λ j h g. absurd (omega arith);
@@ -114,40 +104,63 @@ module _ (s : Bytes) (at₀ ends : List ℕ) (from n : ℕ) (k : Key) (at : List
   pub gather-inside : HeldAt s held
   gather-inside = i .inside
 
-  pub gather-lies : KeyIn s k
-  gather-lies = i .lies
-
   pub gather-stands : r < n → Stands s (getD at r 0) (getD ends r 0)
   gather-stands h = i .within .each r h
 
-  pub gather-again : (t : Took) → r < n → Taken s held (getD at r 0) (getD ends r 0) (keyIn s k) t →
-      Gathering s at₀ ends from n k (set at r (t .at)) (t .held) (r + 1)
-  gather-again t h u = record {
-    within = record {
-      few = i .within .few;
-      long = length-set at r (t .at) ∙ i .within .long;
-      long-ends = i .within .long-ends;
-      each = λ j q. each j q (ℕ-discrete j r);
-    };
-    same-long = length-set at r (t .at) ∙ i .same-long;
-    inside = record { fits = u .holds .fits };
-    lies = i .lies;
-    left = rw (u .holds .is, i .kept r (omega arith)) (rw (runs-cons s at₀ ends r n h) at (i .left));
-    kept = λ j q. getD-set-other at r j (t .at) 0 (λ z. omega arith) ∙ i .kept j (omega arith);
-    gone = λ j q z. gone j q z (ℕ-discrete j r);
-  }
-    where
-      here : getD (set at r (t .at)) r 0 ≡ t .at
-      here = getD-set-same at r (t .at) 0 (omega (arith, i .within .long, i .within .few))
+  module _ (h : r < n) (a : Said) (u : Says s (getD at r 0) (getD ends r 0) (keyIn s k) a) where
+    pub gather-pass : a ≡ said.Nothing → Gathering s at₀ ends from n k at held (r + 1)
+    gather-pass q = record {
+      within = i .within;
+      same-long = i .same-long;
+      inside = i .inside;
+      left = rw (same, i .kept r (omega arith)) (rw (runs-cons s at₀ ends r n h) at (i .left));
+      kept = λ j z. i .kept j (omega arith);
+      gone = λ j z w. gone j z w (ℕ-discrete j r);
+    }
+      where
+        same : heldIn s s held ≡ mergeAt bytes (heldIn s s held) (first bytes (keyIn s k) (run s (getD at r 0) (getD ends r 0)))
+        same = rw (u .change, q) (sym (none-merge strings (heldIn s s held)))
 
-      each : (j : ℕ) → j < n → Dec (j ≡ r) → Stands s (getD (set at r (t .at)) j 0) (getD ends j 0)
-      each j q (yes e) = rw (e, here) (u .stands)
-      each j q (no e) = rw (getD-set-other at r j (t .at) 0 e) (i .within .each j q)
+        gone : (j : ℕ) → from ≤ j → j < r + 1 → Dec (j ≡ r) → run s (getD at j 0) (getD ends j 0) ≡ past bytes (keyIn s k) (run s (getD at₀ j 0) (getD ends j 0))
+        gone j z w (yes e) = rw (e, ← i .kept r (omega arith)) (rw q at (u .gone))
+        gone j z w (no e) = i .gone j z (omega arith)
 
-      gone : (j : ℕ) → from ≤ j → j < r + 1 → Dec (j ≡ r) →
-          run s (getD (set at r (t .at)) j 0) (getD ends j 0) ≡ past bytes (keyIn s k) (run s (getD at₀ j 0) (getD ends j 0))
-      gone j q z (yes e) = rw (e, here, ← i .kept r (omega arith)) (u .gone)
-      gone j q z (no e) = rw (getD-set-other at r j (t .at) 0 e) (i .gone j q (omega arith))
+    module _ (b : Act) (p : ℕ) (q : a ≡ said.Change b p) where
+      fits : ChangeFits s (getD ends r 0) b p
+      fits = rw q at (u .fits)
+
+      pub gather-act : ActFits s s b
+      gather-act = fits .act
+
+      pub gather-again : (t : Held) → Holds s s (mergeAt bytes (heldIn s s held) (some (changeIn s s b))) t → Gathering s at₀ ends from n k (set at r p) t (r + 1)
+      gather-again t m = record {
+        within = record {
+          few = i .within .few;
+          long = length-set at r p ∙ i .within .long;
+          long-ends = i .within .long-ends;
+          each = λ j z. each j z (ℕ-discrete j r);
+        };
+        same-long = length-set at r p ∙ i .same-long;
+        inside = record { fits = m .fits };
+        left = rw (joined, i .kept r (omega arith)) (rw (runs-cons s at₀ ends r n h) at (i .left));
+        kept = λ j z. getD-set-other at r j p 0 (λ w. omega arith) ∙ i .kept j (omega arith);
+        gone = λ j z w. gone j z w (ℕ-discrete j r);
+      }
+        where
+          joined : heldIn s s t ≡ mergeAt bytes (heldIn s s held) (first bytes (keyIn s k) (run s (getD at r 0) (getD ends r 0)))
+          joined = rw (u .change, q) (m .is)
+
+          here : getD (set at r p) r 0 ≡ p
+          here = getD-set-same at r p 0 (omega (arith, i .within .long, i .within .few))
+
+          each : (j : ℕ) → j < n → Dec (j ≡ r) → Stands s (getD (set at r p) j 0) (getD ends j 0)
+          each j z (yes e) = rw (e, here) (fits .stands)
+          each j z (no e) = rw (getD-set-other at r j p 0 e) (i .within .each j z)
+
+          gone : (j : ℕ) → from ≤ j → j < r + 1 → Dec (j ≡ r) →
+              run s (getD (set at r p) j 0) (getD ends j 0) ≡ past bytes (keyIn s k) (run s (getD at₀ j 0) (getD ends j 0))
+          gone j z w (yes e) = rw (e, here, ← i .kept r (omega arith)) (rw q at (u .gone))
+          gone j z w (no e) = rw (getD-set-other at r j p 0 e) (i .gone j z (omega arith))
 
   pub gather-done : n ≤ r → Gathered s at₀ at ends from n (keyIn s k) held
   gather-done h = record {
@@ -156,4 +169,4 @@ module _ (s : Bytes) (at₀ ends : List ℕ) (from n : ℕ) (k : Key) (at : List
     gone = runs-past s at₀ at ends (keyIn s k) from (n - from) (λ j a b. i .gone j a (omega arith));
   }
 
-pub ruleset gathering = (gather-start, gather-inside, gather-lies, gather-stands, gather-again, gather-done)
+pub ruleset gathering = (gather-start, gather-inside, gather-stands, gather-pass, gather-act, gather-again, gather-done)

@@ -9,7 +9,7 @@ use lib.ListN.{getD}
 use Rattle.order.specs.declared.Ordering.{Ordering}
 use Rattle.order.specs.declared.Ordering.the-variants.{Less, Equal, Greater}
 use Rattle.order.specs.Comparison.{bytes}
-use Rattle.order.specs.Many.{lower, lowerOf, least}
+use Rattle.order.specs.Many.{lower, least}
 use Rattle.field.specs.declared.key.Key.{Key}
 use Rattle.field.specs.Places.{keyIn}
 use Rattle.payload.specs.Content.{Bytes}
@@ -19,7 +19,7 @@ use Rattle.delta.specs.declared.reading.Read.the-variants.{End, One}
 use Rattle.delta.specs.Place.{itemIn}
 use Rattle.history.specs.declared.least.Found.{Found}
 use Rattle.history.specs.declared.least.Found.the-variants.{Nothing, At}
-use Rattle.history.specs.Cursor.{D, run, runsN, runs, Stands, Within, EntryFits, Heads, keyFound, FoundIn, Lowered, Least}
+use Rattle.history.specs.Cursor.{D, run, runsN, runs, Stands, Within, EntryFits, Heads, keyFound, FoundIn, Below, Least}
 
 -- ---- what a cursor stands at
 
@@ -34,34 +34,34 @@ module _ (s : Bytes) (p e : ℕ) (r : Read) (h : Heads s p e r) where
     pub head-fits : EntryFits s e x
     head-fits = rw q at (h .fits)
 
--- ---- lower
+-- ---- below
 
-lower-with : (o : Option Bytes) (d : D) → d ≡ [] → lower bytes o d ≡ o
-lower-with none d q = rw q
-lower-with (some k) d q = rw q
+lower-none : (o : Option Bytes) (d : D) → d ≡ [] → lower bytes o d ≡ o
+lower-none none d q = rw q
+lower-none (some k) d q = rw q
 
-module _ (s : Bytes) (best : Found) (i : FoundIn s best) (p e : ℕ) (r : Read) (h : Heads s p e r) where
-  pub low-end : r ≡ End → Lowered s best p e best
-  low-end q = record { inside = i; key = sym (lower-with (keyFound s best) (run s p e) (head-end s p e r h q)) }
+module _ (s : Bytes) (best : Found) (p e : ℕ) (r : Read) (h : Heads s p e r) where
+  pub below-end : r ≡ End → Below s best p e Nothing
+  below-end q = record { inside = record { fits = tt }; key = sym (lower-none (keyFound s best) (run s p e) (head-end s p e r h q)) }
 
   module _ (x : Entry) (q : r ≡ One x) where
-    pub low-first : best ≡ Nothing → Lowered s best p e (At (x .key))
-    low-first b = record { inside = record { fits = head-fits s p e r h x q .key }; key = rw (head-is s p e r h x q, b) }
+    new : FoundIn s (At (x .key))
+    new = record { fits = head-fits s p e r h x q .key }
+
+    pub below-first : best ≡ Nothing → Below s best p e (At (x .key))
+    below-first b = record { inside = new; key = rw (head-is s p e r h x q, b) }
 
     module _ (k : Key) (b : best ≡ At k) (o : Ordering) (c : o ≡ bytes (keyIn s k) (keyIn s (x .key))) where
-      lowered : (f : Found) → FoundIn s f → keyFound s f ≡ some (lowerOf o (keyIn s k) (keyIn s (x .key))) → Lowered s best p e f
-      lowered f j g = record { inside = j; key = rw (head-is s p e r h x q, b, ← c) g }
+      pub below-less : o ≡ Less → Below s best p e Nothing
+      below-less d = record { inside = record { fits = tt }; key = rw (head-is s p e r h x q, b, ← c, d) }
 
-      pub low-new : o ≡ Greater → Lowered s best p e (At (x .key))
-      low-new d = lowered (At (x .key)) (record { fits = head-fits s p e r h x q .key }) (rw d)
+      pub below-equal : o ≡ Equal → Below s best p e Nothing
+      below-equal d = record { inside = record { fits = tt }; key = rw (head-is s p e r h x q, b, ← c, d) }
 
-      pub low-less : o ≡ Less → Lowered s best p e (At k)
-      low-less d = lowered (At k) (rw b at i) (rw d)
+      pub below-greater : o ≡ Greater → Below s best p e (At (x .key))
+      below-greater d = record { inside = new; key = rw (head-is s p e r h x q, b, ← c, d) }
 
-      pub low-equal : o ≡ Equal → Lowered s best p e (At k)
-      low-equal d = lowered (At k) (rw b at i) (rw d)
-
-pub ruleset lowering = (low-end, low-first, low-new, low-less, low-equal)
+pub ruleset lowering = (below-end, below-first, below-less, below-equal, below-greater)
 
 -- ---- the runs, one by one
 
@@ -88,16 +88,21 @@ pub least-start : (s : Bytes) (at ends : List ℕ) (from n : ℕ) → Within s a
 least-start s at ends from n w = record { within = w; inside = record { fits = tt }; left = refl }
 
 module _ (s : Bytes) (at ends : List ℕ) (from n : ℕ) (best : Found) (r : ℕ) (i : Leasting s at ends from n best r) where
-  pub least-inside : FoundIn s best
-  least-inside = i .inside
-
   pub least-stands : r < n → Stands s (getD at r 0) (getD ends r 0)
   least-stands h = i .within .each r h
 
-  pub least-again : (best′ : Found) → r < n → Lowered s best (getD at r 0) (getD ends r 0) best′ → Leasting s at ends from n best′ (r + 1)
-  least-again best′ h l = record { within = i .within; inside = l .inside; left = rw (l .key) (rw (runs-cons s at ends r n h) at (i .left)) }
+  module _ (h : r < n) (f : Found) (u : Below s best (getD at r 0) (getD ends r 0) f) where
+    again : (best′ : Found) → FoundIn s best′ → keyFound s best′ ≡ lower bytes (keyFound s best) (run s (getD at r 0) (getD ends r 0)) →
+        Leasting s at ends from n best′ (r + 1)
+    again best′ g e = record { within = i .within; inside = g; left = rw e (rw (runs-cons s at ends r n h) at (i .left)) }
+
+    pub least-old : f ≡ Nothing → Leasting s at ends from n best (r + 1)
+    least-old q = again best (i .inside) (rw q at (u .key))
+
+    pub least-new : (k : Key) → f ≡ At k → Leasting s at ends from n (At k) (r + 1)
+    least-new k q = again (At k) (rw q at (u .inside)) (rw q at (u .key))
 
   pub least-done : n ≤ r → Least s at ends from n best
   least-done h = record { inside = i .inside; key = rw (runs-nil s at ends r n h) at (i .left) }
 
-pub ruleset leasting = (least-start, least-inside, least-stands, least-again, least-done)
+pub ruleset leasting = (least-start, least-stands, least-old, least-new, least-done)

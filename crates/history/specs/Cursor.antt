@@ -7,6 +7,7 @@ use lib.ListN.{length, getD, take, drop}
 use Rattle.order.specs.Comparison.{bytes}
 use Rattle.order.specs.Map.{All, Sorted}
 use Rattle.order.specs.Many.{lower, least, first, past}
+use Rattle.change.specs.Change.{Change}
 use Rattle.change.specs.Difference as change
 use Rattle.change.specs.Merge.{mergeAt, mergeAll}
 use Rattle.field.specs.declared.key.Key.{Key}
@@ -19,11 +20,12 @@ use Rattle.delta.specs.declared.place.Entry.{Entry}
 use Rattle.delta.specs.declared.reading.Reading.the-variants.{Changes}
 use Rattle.delta.specs.declared.reading.Read.{Read}
 use Rattle.delta.specs.declared.reading.Read.the-variants as read
-use Rattle.delta.specs.Place.{itemIn, heldIn, HeldFits, ActFits, KeyIn, Holds}
+use Rattle.delta.specs.Place.{itemIn, changeIn, HeldFits, ActFits, KeyIn, Holds}
 use Rattle.delta.specs.Reading.{Ready}
 use Rattle.history.specs.declared.least.Found.{Found}
 use Rattle.history.specs.declared.least.Found.the-variants as found
-use Rattle.history.specs.declared.gather.Took.{Took}
+use Rattle.history.specs.declared.gather.Said.{Said}
+use Rattle.history.specs.declared.gather.Said.the-variants as said
 use Rattle.history.specs.declared.next.Step.{Step}
 use Rattle.history.specs.declared.next.Step.the-variants as step
 
@@ -110,10 +112,15 @@ FoundFits s (found.At k) = KeyIn s k
 pub record FoundIn (s : Bytes) (f : Found) : Type 0 where
   pub fits : FoundFits s f
 
--- the lower of what was found and a run's first key
-pub record Lowered (s : Bytes) (best : Found) (p e : ℕ) (r : Found) : Type 0 where
+-- what was found last, if anything, else what was found before
+abbrev pub latest : Option Bytes → Option Bytes → Option Bytes
+latest before none = before
+latest before (some k) = some k
+
+-- a run's first key if it is below what was found: the lower of the two is what was found last
+pub record Below (s : Bytes) (best : Found) (p e : ℕ) (r : Found) : Type 0 where
   pub inside : FoundIn s r
-  pub key : keyFound s r ≡ lower bytes (keyFound s best) (run s p e)
+  pub key : latest (keyFound s best) (keyFound s r) ≡ lower bytes (keyFound s best) (run s p e)
 
 -- the least of the first keys of all runs
 pub record Least (s : Bytes) (at ends : List ℕ) (from n : ℕ) (r : Found) : Type 0 where
@@ -125,11 +132,28 @@ pub record Least (s : Bytes) (at ends : List ℕ) (from n : ℕ) (r : Found) : T
 pub record HeldAt (s : Bytes) (h : Held) : Type 0 where
   pub fits : HeldFits s s h
 
--- one run: its change at k, if it has one, joins what is held, and the cursor goes past it
-pub record Taken (s : Bytes) (held : Held) (p e : ℕ) (k : Bytes) (r : Took) : Type 0 where
-  pub holds : Holds s s (mergeAt bytes (heldIn s s held) (first bytes k (run s p e))) (r .held)
-  pub stands : Stands s (r .at) e
-  pub gone : run s (r .at) e ≡ past bytes k (run s p e)
+-- a change of the store, and a place where its run goes on
+pub record ChangeFits (s : Bytes) (e : ℕ) (a : Act) (next : ℕ) : Type 0 where
+  pub act : ActFits s s a
+  pub stands : Stands s next e
+
+abbrev pub SaidFits : Bytes → ℕ → Said → Type 0
+SaidFits s e said.Nothing = Unit {0}
+SaidFits s e (said.Change a next) = ChangeFits s e a next
+
+abbrev pub changeSaid : Bytes → Said → Option (Change Bytes)
+changeSaid s said.Nothing = none
+changeSaid s (said.Change a next) = some (changeIn s s a)
+
+abbrev pub behind : ℕ → Said → ℕ
+behind p said.Nothing = p
+behind p (said.Change a next) = next
+
+-- one run: its change at k, if it has one, and the run past k
+pub record Says (s : Bytes) (p e : ℕ) (k : Bytes) (r : Said) : Type 0 where
+  pub fits : SaidFits s e r
+  pub change : first bytes k (run s p e) ≡ changeSaid s r
+  pub gone : run s (behind p r) e ≡ past bytes k (run s p e)
 
 -- all runs: their changes at k, merged, and the runs past it
 pub record Gathered (s : Bytes) (at₀ at ends : List ℕ) (from n : ℕ) (k : Bytes) (r : Held) : Type 0 where

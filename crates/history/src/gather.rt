@@ -11,13 +11,13 @@ ghost use mathlib.Core.Option.{some};
 ghost use Rattle.order.specs.Comparison.{bytes};
 ghost use Rattle.change.specs.Merge.{mergeAt};
 ghost use Rattle.field.specs.Places.{keyIn};
-ghost use Rattle.delta.specs.Place.{ActFits, KeyIn, Holds, heldIn, changeIn};
-ghost use Rattle.history.specs.Cursor.{Stands, Within, HeldAt, Taken, Gathered};
+ghost use Rattle.delta.specs.Place.{ActFits, Holds, heldIn, changeIn};
+ghost use Rattle.history.specs.Cursor.{Stands, Within, HeldAt, Says, Gathered};
 
-// What is held after one run was asked, and where its cursor stands.
-pub struct Took {
-    pub held: Held,
-    pub at: usize,
+// What a run says of a key: its change there, and where the run goes on.
+pub enum Said {
+    Nothing,
+    Change(Act, usize),
 }
 
 // What is held, and then a later change.
@@ -31,25 +31,21 @@ fn join(store: &[u8], held: Held, act: Act) -> Held
     }
 }
 
-// A run that stands at key k adds its change, and goes past it.
-fn take(store: &[u8], held: Held, p: usize, e: usize, k: Key) -> Took
-    requires { ⌜ HeldAt (now store) held × (Stands (now store) p e × KeyIn (now store) k) ⌝ }
-    ensures { λ r. ⌜ Taken (now (store .entry)) held p e (keyIn (now (store .entry)) k) r ⌝ }
+// What the run from p up to e says of key k.
+fn ask(store: &[u8], p: usize, e: usize, k: Key) -> Said
+    requires { ⌜ Stands (now store) p e ⌝ }
+    ensures { λ r. ⌜ Says (now (store .entry)) p e (keyIn (now (store .entry)) k) r ⌝ }
 {
     let Read::One(x) = item_at(store, p, e) else {
-        return Took { held, at: p };
+        return Said::Nothing;
     };
     let key = x.key;
     match key_compare(store, k, store, key) {
-        Ordering::Less => Took { held, at: p },
-        Ordering::Greater => Took { held, at: p },
+        Ordering::Less => Said::Nothing,
+        Ordering::Greater => Said::Nothing,
         Ordering::Equal => {
             let act = x.act;
-            let after = join(store, held, act);
-            Took {
-                held: after,
-                at: x.next,
-            }
+            Said::Change(act, x.next)
         }
     }
 }
@@ -63,15 +59,18 @@ pub(crate) fn gather(
     n: usize,
     k: Key,
 ) -> Held
-    requires { ⌜ Within (now store) (now at) (now ends) n × KeyIn (now store) k ⌝ }
+    requires { ⌜ Within (now store) (now at) (now ends) n ⌝ }
     ensures { λ r. ⌜ Gathered (now (store .entry)) (now (at .entry)) (now (at .exit)) (now (ends .entry)) from n (keyIn (now (store .entry)) k) r ⌝ }
 {
     let mut held = Held::Nothing;
     let mut r = from;
     while r < n {
-        let t = take(store, held, at[r], ends[r], k);
-        held = t.held;
-        at[r] = t.at;
+        let Said::Change(act, next) = ask(store, at[r], ends[r], k) else {
+            r += 1;
+            continue;
+        };
+        held = join(store, held, act);
+        at[r] = next;
         r += 1;
     }
     held

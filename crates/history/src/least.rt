@@ -4,28 +4,28 @@ use delta::reading::Read;
 use field::key::Key;
 use field::key::key_compare;
 use order::Ordering;
-ghost use Rattle.history.specs.Cursor.{Stands, Within, FoundIn, Lowered, Least};
+ghost use Rattle.history.specs.Cursor.{Stands, Within, Below, Least};
 
 pub enum Found {
     Nothing,
     At(Key),
 }
 
-// The lower of what was found and the first key of a run; the earlier of two that are equal.
-fn lower(store: &[u8], best: Found, p: usize, e: usize) -> Found
-    requires { ⌜ FoundIn (now store) best × Stands (now store) p e ⌝ }
-    ensures { λ r. ⌜ Lowered (now (store .entry)) best p e r ⌝ }
+// The first key of the run from p up to e, if it is below what was found.
+fn below(store: &[u8], best: Found, p: usize, e: usize) -> Found
+    requires { ⌜ Stands (now store) p e ⌝ }
+    ensures { λ r. ⌜ Below (now (store .entry)) best p e r ⌝ }
 {
     let Read::One(x) = item_at(store, p, e) else {
-        return best;
+        return Found::Nothing;
     };
     let key = x.key;
     let Found::At(k) = best else {
         return Found::At(key);
     };
     match key_compare(store, k, store, key) {
-        Ordering::Less => best,
-        Ordering::Equal => best,
+        Ordering::Less => Found::Nothing,
+        Ordering::Equal => Found::Nothing,
         Ordering::Greater => Found::At(key),
     }
 }
@@ -44,7 +44,11 @@ pub(crate) fn least(
     let mut best = Found::Nothing;
     let mut r = from;
     while r < n {
-        best = lower(store, best, at[r], ends[r]);
+        let Found::At(key) = below(store, best, at[r], ends[r]) else {
+            r += 1;
+            continue;
+        };
+        best = Found::At(key);
         r += 1;
     }
     best

@@ -14,20 +14,26 @@ abbrev μ-loop : tie.MeasureT-loop
 loop-holds : tie.Need-loop-holds Inv-loop μ-loop
 loop-holds c = search (leasting, needs)
 
-mul-lower : tie.Need-mul-lower Inv-loop μ-loop
-mul-lower c = search (leasting, needs)
+mul-below : tie.Need-mul-below Inv-loop μ-loop
+mul-below c = search (leasting, needs)
 
-element-copy-out-lower : tie.Need-element-copy-out-lower Inv-loop μ-loop
-element-copy-out-lower c = search (leasting, needs)
+element-copy-out-below : tie.Need-element-copy-out-below Inv-loop μ-loop
+element-copy-out-below c = search (leasting, needs)
 
-mul-lower-2 : tie.Need-mul-lower-2 Inv-loop μ-loop
-mul-lower-2 c = search (leasting, needs)
+mul-below-2 : tie.Need-mul-below-2 Inv-loop μ-loop
+mul-below-2 c = search (leasting, needs)
 
-element-copy-out-lower-2 : tie.Need-element-copy-out-lower-2 Inv-loop μ-loop
-element-copy-out-lower-2 c = search (leasting, needs)
+element-copy-out-below-2 : tie.Need-element-copy-out-below-2 Inv-loop μ-loop
+element-copy-out-below-2 c = search (leasting, needs)
 
-lower-requires : tie.Need-lower-requires Inv-loop μ-loop
-lower-requires c κs = search (leasting, needs)
+below-requires : tie.Need-below-requires Inv-loop μ-loop
+below-requires c κs = search (leasting, needs)
+
+enum-known-key : tie.Need-enum-known-key Inv-loop μ-loop
+enum-known-key c = search (leasting, needs)
+
+enum-told : tie.Need-enum-told Inv-loop μ-loop
+enum-told c = search (leasting, needs)
 
 add-r : tie.Need-add-r Inv-loop μ-loop
 add-r c = search (leasting, needs)
@@ -37,6 +43,15 @@ loop-less c = search (leasting, needs)
 
 loop-again : tie.Need-loop-again Inv-loop μ-loop
 loop-again c = search (leasting, needs)
+
+add-r-2 : tie.Need-add-r-2 Inv-loop μ-loop
+add-r-2 c = search (leasting, needs)
+
+loop-less-2 : tie.Need-loop-less-2 Inv-loop μ-loop
+loop-less-2 c = search (leasting, needs)
+
+loop-again-2 : tie.Need-loop-again-2 Inv-loop μ-loop
+loop-again-2 c = search (leasting, needs)
 
 returns : tie.Need-returns Inv-loop μ-loop
 returns c = search (leasting, needs)
@@ -48,12 +63,17 @@ least-spec =
     Inv-loop
     μ-loop
     loop-holds
-    mul-lower
-    element-copy-out-lower
-    mul-lower-2
-    element-copy-out-lower-2
-    lower-requires
+    mul-below
+    element-copy-out-below
+    mul-below-2
+    element-copy-out-below-2
+    below-requires
+    enum-known-key
+    enum-told
     add-r
     loop-less
     loop-again
+    add-r-2
+    loop-less-2
+    loop-again-2
     returns)

@@ -1,7 +1,7 @@
 use borrow.Author.Needs.{needs}
 use Rattle.history.proofs.Lowering.{lowering}
-use Rattle.history.proofs.least.lower.Statement.{statement}
-use Rattle.history.proofs.least.lower.Tie as tie
+use Rattle.history.proofs.least.below.Statement.{statement}
+use Rattle.history.proofs.least.below.Tie as tie
 
 item-at-requires : tie.Need-item-at-requires
 item-at-requires c κs = search (lowering, needs)
@@ -45,8 +45,8 @@ returns-4 c = search (lowering, needs)
 returns-5 : tie.Need-returns-5
 returns-5 c = search (lowering, needs)
 
-pub lower-spec : {M : Type 1} → statement M
-lower-spec =
+pub below-spec : {M : Type 1} → statement M
+below-spec =
     tie.close
     (tie.spec
     item-at-requires
