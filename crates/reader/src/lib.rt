@@ -4,6 +4,8 @@ use field::head::field_at;
 ghost use mathlib.Core.Path.{_≡_};
 ghost use Rattle.reader.specs.Step.{behind, found, stepped};
 
+pub mod count;
+
 pub struct DeltaReader<'a> {
     pub delta: &'a [u8],
     pub at: usize,
