@@ -1,10 +1,15 @@
--- One step of a reader: what it finds where it stands, and where it stands then.
+-- A reader, made and stepped: what it finds where it stands, and where it stands then.
 use Prim.Native.Nat.{ℕ}
-use denote.Ref.{now}
+use mathlib.Core.List.{List}
+use denote.Ref.{RefT, now}
 use Rattle.field.specs.declared.head.Field.{Field}
 use Rattle.field.specs.declared.head.Field.the-variants.{End, Cut, Whole}
 use Rattle.field.specs.Places.{fieldAt}
 use Rattle.reader.specs.declared.DeltaReader.{DeltaReader}
+
+-- a reader at the start of a delta
+abbrev pub start : RefT (List ℕ) → DeltaReader
+start d = record { delta = d; at = 0 }
 
 -- the place behind a field that was found at `at`; there is none behind the end and behind a field that is cut short
 abbrev pub behind : Field → ℕ → ℕ

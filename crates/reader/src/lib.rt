@@ -2,7 +2,7 @@
 use field::head::Field;
 use field::head::field_at;
 ghost use mathlib.Core.Path.{_≡_};
-ghost use Rattle.reader.specs.Step.{behind, found, stepped};
+ghost use Rattle.reader.specs.Step.{start, behind, found, stepped};
 
 pub mod count;
 
@@ -13,7 +13,7 @@ pub struct DeltaReader<'a> {
 
 // A reader at the start of a delta.
 pub fn new<'a>(delta: &'a [u8]) -> DeltaReader<'a>
-    ensures { λ r. ⌜ (r .delta ≡ delta .entry) × (r .at ≡ 0) ⌝ }
+    ensures { λ r. ⌜ r ≡ start (delta .entry) ⌝ }
 {
     DeltaReader { delta, at: 0 }
 }

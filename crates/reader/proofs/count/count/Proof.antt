@@ -61,7 +61,7 @@ use Rattle.field.proofs.head.Field as F
 use Rattle.field.proofs.head.Field.Laws as F′
 use Rattle.reader.specs.declared.DeltaReader.{DeltaReader}
 use Rattle.reader.specs.declared.count.Counts.{Counts}
-use Rattle.reader.specs.Step.{behind, found, stepped}
+use Rattle.reader.specs.Step.{start, behind, found, stepped}
 use Rattle.reader.specs.Count as count-specs
 use Rattle.reader.specs.Count.{isLast, plusField, countsOf}
 use Rattle.reader.proofs.Counting.{Counted, More, counted-start, counted-all, counted-more}
@@ -184,8 +184,8 @@ module _ {M : Type 1} (𝓤 : URA M) (H : Heap 𝓤) (A : Atoms 𝓤) (W : Given
       move ! (1 ∷ []) $ fsplit ! $ use1 W (‵ OwnS ⊛ ‵ OwnS) (shr-slice-copy 𝓤 H A W (named 0) κ u8 .twice s (v ∷ [])) $ split ! $
       move ! (0 ∷ 2 ∷ []) $ fjoin ! $ move ! (2 ∷ 0 ∷ []) $ use2 W (raw (New 𝓤 H A mem′ run .pre to-new)) (qed W (tok ∷ ‵ (owns (ShrSlice (named 0) κ u8 ∷ []) (s, tt) (v ∷ [], tt)) ∷ []) ∵ join ! $ frame ! $ done !) $ frame ! $ done !
 
-  new-said : (r : DeltaReader) → ent 𝓤 (ensured 𝓤 H A new.ended (new.clauses 𝓤 H A mem′ run) (κ, tt) (s, tt) tt r) (fact 𝓤 ((r .delta ≡ s) × (r .at ≡ 0)))
-  new-said r = exE 𝓤 _ (λ ws. snd∗ 𝓤 (sem 𝓤 H A (lasts new.ended (κ, tt) (s, tt) ws)) (fact 𝓤 ((r .delta ≡ s) × (r .at ≡ 0))))
+  new-said : (r : DeltaReader) → ent 𝓤 (ensured 𝓤 H A new.ended (new.clauses 𝓤 H A mem′ run) (κ, tt) (s, tt) tt r) (fact 𝓤 (r ≡ start s))
+  new-said r = exE 𝓤 _ (λ ws. snd∗ 𝓤 (sem 𝓤 H A (lasts new.ended (κ, tt) (s, tt) ws)) (fact 𝓤 (r ≡ start s)))
 
   -- ---- the call of `next`: the reader at n lies in the local l, and is lent under the name δ for the lifetime α within κ
   abbrev ref : ℕ → GName → ℕ → RefT DeltaReader
@@ -383,9 +383,6 @@ module _ {M : Type 1} (𝓤 : URA M) (H : Heap 𝓤) (A : Atoms 𝓤) (W : Given
       abbrev none : Counts
       none = record { announced = 0; withdrawn = 0 }
 
-      begins : (r : DeltaReader) → (r .delta ≡ s) × (r .at ≡ 0) → r ≡ at 0
-      begins r e = λ i. record { delta = e .0 i; at = e .1 i }
-
       -- the MIR up to the loop: a reader is made
       starts : Sq W (‵ (froom tyBool l₇ 0) ∷ ‵ (fdies tyBool l₇) ∷ ‵ (froom lent l₆ 0) ∷ ‵ (fdies lent l₆) ∷ ‵ (froom reader l₅ 0) ∷ ‵ (fdies reader l₅) ∷ ‵ (froom F′.mir l₄ 0) ∷ ‵ (fdies F′.mir l₄) ∷ ‵ (froom N′.mir l₃ 0) ∷ ‵ (fdies N′.mir l₃)
           ∷ ‵ (froom reader l₂ 0) ∷ ‵ (fdies reader l₂) ∷ ‵ (fat fullShare slice l₁ 0 v) ∷ ‵ (fdies slice l₁) ∷ ‵ (froom N′.mir l₀ 0) ∷ ‵ (fdies N′.mir l₀) ∷ raw (onEntry 𝓤 H A count.signature (κ, tt) (q, tt) (s, tt) (v ∷ [], tt)) ∷ [])
@@ -394,7 +391,7 @@ module _ {M : Type 1} (𝓤 : URA M) (H : Heap 𝓤) (A : Atoms 𝓤) (W : Given
           move ! (16 ∷ []) $ use1 W (raw (New 𝓤 H A mem′ run .pre to-new) ⊛ ‵ OwnS) goes-new $ split ! $
           calls-at ! fm (New 𝓤 H A mem′ run) known-new to-new (and-then ! (load ! (from ! (stop !)) (look ! 14 refl)) (no-more !)) (λ u.
           use1 W (later (some (λ (r : DeltaReader). (tok ⊛ ‵ (B κ .own r (u ∷ []))) ⊛ raw (ensured 𝓤 H A new.ended (new.clauses 𝓤 H A mem′ run) (κ, tt) (s, tt) tt r)))) (id⊢ 𝓤 _) $ await ! tt $ pick ! (λ r.
-          split ! $ move ! (1 ∷ []) $ use1 W (raw (fact 𝓤 ((r .delta ≡ s) × (r .at ≡ 0)))) (new-said r) $ heard ! ((r .delta ≡ s) × (r .at ≡ 0)) (λ e. split ! $ move ! (1 ∷ []) $
+          split ! $ move ! (1 ∷ []) $ use1 W (raw (fact 𝓤 (r ≡ start s))) (new-said r) $ heard ! (r ≡ start s) (λ e. split ! $ move ! (1 ∷ []) $
           -- [what the reader owns; the token; what delta owns; _7; …; _6; …; _5; …; _4; …; _3; …; _2; …; _1; …; room for _0; …]
           peeks ! (B κ) (Is (B κ)) (shows 𝓤 H A (B κ)) r (u ∷ []) (λ is.
           land ! (from ! (stop !)) (init ! 7 refl (LL.lawful (T.the-type αᵉ) (T′.the-laws αᵉ) 𝓤 H A W .typed r _ is .0)) $
@@ -402,7 +399,7 @@ module _ {M : Type 1} (𝓤 : URA M) (H : Heap 𝓤) (A : Atoms 𝓤) (W : Given
           assigns ! (agg ! (and-then ! (lit ! tt) (and-then ! (lit ! tt) (no-more !)))) (from ! (stop !)) (init ! 11 refl (tt, (record { fits = lit< tt }, (record { fits = lit< tt }, tt)))) $ forget ! 7 refl $
           -- the reader stands at 0
           rewrite ! 0 (λ (us : List Val). ‵ (B κ .own r us)) (LL.tells D L r _ is) refl $ rewrite ! 13 (λ (us : List Val). ‵ (fat fullShare reader l₂ 0 (only us))) (LL.tells D L r _ is) refl $
-          rewrite ! 0 (λ (y : DeltaReader). ‵ (Own y)) (begins r e) refl $ rewrite ! 13 (λ (y : DeltaReader). ‵ (cell l₂ y)) (begins r e) refl $
+          rewrite ! 0 (λ (y : DeltaReader). ‵ (Own y)) e refl $ rewrite ! 13 (λ (y : DeltaReader). ‵ (cell l₂ y)) e refl $
           keep ! (13 ∷ 0 ∷ 11 ∷ 9 ∷ 7 ∷ 5 ∷ 3 ∷ 15 ∷ 17 ∷ 1 ∷ 2 ∷ 18 ∷ 16 ∷ 14 ∷ 12 ∷ 10 ∷ 8 ∷ 6 ∷ 4 ∷ []) $ by ! (loops none (N′.lowered none) (counted-start (now s)) (LL.owes N.the-type N′.the-laws none ((refl, lit< tt), ((refl, lit< tt), tt))))))))
 
     walk : Is (ShrSlice (named 0) κ u8) s (v ∷ []) → ent 𝓤 (onEntry 𝓤 H A count.signature (κ, tt) (q, tt) (s, tt) (v ∷ [], tt)) (WpFn 𝓤 H C Λ code.function (v ∷ []) Post)
