@@ -10,7 +10,7 @@ use Rattle.field.specs.Places.{fieldAt}
 use Rattle.field.specs.Cells.{cellsF, cells}
 use Rattle.reader.specs.Step.{start}
 use Rattle.reader.specs.Stepping.{answers, steps}
-use Rattle.reader.specs.Count.{countsOf}
+use Rattle.reader.specs.Count.{tallyOf}
 
 -- a customer's ASPA announced, with no provider; another's withdrawn, with one
 abbrev announced : List ℕ
@@ -46,6 +46,6 @@ module _ (p : ℕ × ℕ) (γ : GName) where
   unfolding answers fieldAt front
   empty = refl
 
-counted : countsOf (announced ++ withdrawn ++ announced) ≡ record { announced = 2; withdrawn = 1 }
+counted : tallyOf (announced ++ withdrawn ++ announced) ≡ record { announced = 2; withdrawn = 1 }
 unfolding cells cellsF front
 counted = refl

@@ -3,16 +3,16 @@ use crate::new;
 use crate::next;
 use field::head::Field;
 ghost use mathlib.Core.Path.{_≡_};
-ghost use Rattle.reader.specs.Count.{isLast, announcesTag, withdrawsTag, Room, plusField, countsOf};
+ghost use Rattle.reader.specs.Count.{isOver, announcesTag, withdrawsTag, Room, plusField, tallyOf};
 
-pub struct Counts {
+pub struct Tally {
     pub announced: usize,
     pub withdrawn: usize,
 }
 
 // The end, or a field that is cut short: no field follows.
-fn is_last(field: Field) -> bool
-    ensures { λ r. ⌜ r ≡ isLast field ⌝ }
+fn is_over(field: Field) -> bool
+    ensures { λ r. ⌜ r ≡ isOver field ⌝ }
 {
     match field {
         Field::End => true,
@@ -46,35 +46,35 @@ fn withdraws(tag: u8) -> usize
 }
 
 // The counts with one field more.
-fn plus(counts: Counts, field: Field) -> Counts
-    requires { ⌜ Room counts ⌝ }
-    ensures { λ r. ⌜ r ≡ plusField counts field ⌝ }
+fn plus(tally: Tally, field: Field) -> Tally
+    requires { ⌜ Room tally ⌝ }
+    ensures { λ r. ⌜ r ≡ plusField tally field ⌝ }
 {
     match field {
-        Field::End => counts,
-        Field::Cut => counts,
-        Field::Whole { tag, from, to } => Counts {
-            announced: counts.announced + announces(tag),
-            withdrawn: counts.withdrawn + withdraws(tag),
+        Field::End => tally,
+        Field::Cut => tally,
+        Field::Whole { tag, from, to } => Tally {
+            announced: tally.announced + announces(tag),
+            withdrawn: tally.withdrawn + withdraws(tag),
         },
     }
 }
 
 // The counts of a delta's fields, up to one that is cut short.
-pub fn count(delta: &[u8]) -> Counts
-    ensures { λ r. ⌜ r ≡ countsOf (now (delta .entry)) ⌝ }
+pub fn count(delta: &[u8]) -> Tally
+    ensures { λ r. ⌜ r ≡ tallyOf (now (delta .entry)) ⌝ }
 {
     let mut reader = new(delta);
-    let mut counts = Counts {
+    let mut tally = Tally {
         announced: 0,
         withdrawn: 0,
     };
     loop {
         let field = next(&mut reader);
-        if is_last(field) {
+        if is_over(field) {
             break;
         }
-        counts = plus(counts, field);
+        tally = plus(tally, field);
     }
-    counts
+    tally
 }

@@ -1,5 +1,5 @@
 -- `reader::count::count` meets its contract: a walk of its MIR, by hand. A reader that `new` made is held in a local. Each turn lends it to `next` for a lifetime of the call, within delta's, and takes it back at the place behind the field that was found; the turn that finds no field leaves the loop.
--- All that the proof knows of `new`, `next`, `is_last` and `plus` is that each meets its contract. What the counts are on the way is `Counted` (`Counting.antt`).
+-- All that the proof knows of `new`, `next`, `is_over` and `plus` is that each meets its contract. What the counts are on the way is `Counted` (`Counting.antt`).
 --     put-down, pick-up    the reader in the local's cell, as what lies in memory, and back
 --     goes-next, ended     the tokens for the call of `next`, and back: the call's lifetime is ended
 --     Inv t                the loop's invariant, where t bytes are left.        turn-at      one turn from it
@@ -60,15 +60,15 @@ use Rattle.field.specs.Places.{fieldAt}
 use Rattle.field.proofs.head.Field as F
 use Rattle.field.proofs.head.Field.Laws as F′
 use Rattle.reader.specs.declared.DeltaReader.{DeltaReader}
-use Rattle.reader.specs.declared.count.Counts.{Counts}
+use Rattle.reader.specs.declared.count.Tally.{Tally}
 use Rattle.reader.specs.Step.{start, behind, found, stepped}
 use Rattle.reader.specs.Count as count-specs
-use Rattle.reader.specs.Count.{isLast, plusField, countsOf}
+use Rattle.reader.specs.Count.{isOver, plusField, tallyOf}
 use Rattle.reader.proofs.Counting.{Counted, More, counted-start, counted-all, counted-more}
 use Rattle.reader.proofs.DeltaReader as T
 use Rattle.reader.proofs.DeltaReader.Laws as T′
-use Rattle.reader.proofs.count.Counts as N
-use Rattle.reader.proofs.count.Counts.Laws as N′
+use Rattle.reader.proofs.count.Tally as N
+use Rattle.reader.proofs.count.Tally.Laws as N′
 use Rattle.reader.proofs.new as new
 use Rattle.reader.proofs.new.Symbol as new-def
 use Rattle.reader.proofs.new.Symbol.{name as #reader·new}
@@ -77,10 +77,10 @@ use Rattle.reader.proofs.next as next
 use Rattle.reader.proofs.next.Symbol as next-def
 use Rattle.reader.proofs.next.Symbol.{name as #reader·next}
 use Rattle.reader.proofs.next.Met as next-thm
-use Rattle.reader.proofs.count.is_last as is-last
-use Rattle.reader.proofs.count.is_last.Symbol as is-last-def
-use Rattle.reader.proofs.count.is_last.Symbol.{name as #reader·count·is-last}
-use Rattle.reader.proofs.count.is_last.Met as is-last-thm
+use Rattle.reader.proofs.count.is_over as is-over
+use Rattle.reader.proofs.count.is_over.Symbol as is-over-def
+use Rattle.reader.proofs.count.is_over.Symbol.{name as #reader·count·is-over}
+use Rattle.reader.proofs.count.is_over.Met as is-over-thm
 use Rattle.reader.proofs.count.plus as plus
 use Rattle.reader.proofs.count.plus.Symbol as plus-def
 use Rattle.reader.proofs.count.plus.Symbol.{name as #reader·count·plus}
@@ -114,8 +114,8 @@ module _ {M : Type 1} (𝓤 : URA M) (H : Heap 𝓤) (A : Atoms 𝓤) (mem′ : 
   abbrev Next : Contract 𝓤
   Next = tripleOf 𝓤 H A next.signature (next.spec 𝓤 H A mem′ run)
 
-  abbrev IsLast : Contract 𝓤
-  IsLast = tripleOf 𝓤 H A is-last.signature (is-last.spec 𝓤 H A mem′ run)
+  abbrev IsOver : Contract 𝓤
+  IsOver = tripleOf 𝓤 H A is-over.signature (is-over.spec 𝓤 H A mem′ run)
 
   abbrev Plus : Contract 𝓤
   Plus = tripleOf 𝓤 H A plus.signature (plus.spec 𝓤 H A mem′ run)
@@ -222,37 +222,37 @@ module _ {M : Type 1} (𝓤 : URA M) (H : Heap 𝓤) (A : Atoms 𝓤) (W : Given
       use2 W (later (‵ (fdead (α ∷ κ)) ⊛ ‵ (flft κ qˢ))) (within-end 𝓤 H A W α κ qˢ) $ await ! tt $ split ! $ move ! (2 ∷ []) $ split ! $ move ! (3 ∷ 0 ∷ []) $
       use2 W (‵ (flft κ q)) (W .lfts .lft-join κ q) $ move ! (2 ∷ 0 ∷ []) $ at-once ! $ frame ! $ done !
 
-  -- ---- the call of `is_last`, at the field f with the machine value u
-  abbrev to-last : Field → Val → IsLast 𝓤 H A mem′ run .Ghost
-  to-last f u = ((tt, tt, tt, (f, tt), (u ∷ [], tt)), tt)
+  -- ---- the call of `is_over`, at the field f with the machine value u
+  abbrev to-over : Field → Val → IsOver 𝓤 H A mem′ run .Ghost
+  to-over f u = ((tt, tt, tt, (f, tt), (u ∷ [], tt)), tt)
 
-  goes-last : (f : Field) (u : Val) → ent 𝓤 (sem 𝓤 H A (F.the-row .own f (u ∷ []))) (IsLast 𝓤 H A mem′ run .pre (to-last f u))
-  goes-last f u = qed W (‵ (F.the-row .own f (u ∷ [])) ∷ []) ∵ nothing ! $ move ! (1 ∷ 0 ∷ []) $ fjoin ! $ nothing ! $ join ! $ frame ! $ done !
+  goes-over : (f : Field) (u : Val) → ent 𝓤 (sem 𝓤 H A (F.the-row .own f (u ∷ []))) (IsOver 𝓤 H A mem′ run .pre (to-over f u))
+  goes-over f u = qed W (‵ (F.the-row .own f (u ∷ [])) ∷ []) ∵ nothing ! $ move ! (1 ∷ 0 ∷ []) $ fjoin ! $ nothing ! $ join ! $ frame ! $ done !
 
-  last-said : (f : Field) (y : Bool) → ent 𝓤 (ensured 𝓤 H A is-last.ended (is-last.clauses 𝓤 H A mem′ run) tt (f, tt) tt y) (fact 𝓤 (y ≡ isLast f))
-  last-said f y = exE 𝓤 _ (λ ws. snd∗ 𝓤 (sem 𝓤 H A (lasts is-last.ended tt (f, tt) ws)) (fact 𝓤 (y ≡ isLast f)))
+  over-said : (f : Field) (y : Bool) → ent 𝓤 (ensured 𝓤 H A is-over.ended (is-over.clauses 𝓤 H A mem′ run) tt (f, tt) tt y) (fact 𝓤 (y ≡ isOver f))
+  over-said f y = exE 𝓤 _ (λ ws. snd∗ 𝓤 (sem 𝓤 H A (lasts is-over.ended tt (f, tt) ws)) (fact 𝓤 (y ≡ isOver f)))
 
   -- ---- the call of `plus`, at the counts c and the field f
-  abbrev to-plus : Counts → Val → Field → Val → Plus 𝓤 H A mem′ run .Ghost
+  abbrev to-plus : Tally → Val → Field → Val → Plus 𝓤 H A mem′ run .Ghost
   to-plus c w f u = ((tt, tt, tt, (c, (f, tt)), (w ∷ [], (u ∷ [], tt))), tt)
 
-  goes-plus : (c : Counts) (w : Val) (f : Field) (u : Val) → Is N.the-row c (w ∷ []) → Is F.the-row f (u ∷ []) → count-specs.Room c → ent 𝓤 (emp 𝓤) (Plus 𝓤 H A mem′ run .pre (to-plus c w f u))
+  goes-plus : (c : Tally) (w : Val) (f : Field) (u : Val) → Is N.the-row c (w ∷ []) → Is F.the-row f (u ∷ []) → count-specs.Room c → ent 𝓤 (emp 𝓤) (Plus 𝓤 H A mem′ run .pre (to-plus c w f u))
   goes-plus c w f u isc isf room =
       qed W [] ∵ says ! room $ nothing ! $ owned ! F.the-row (Is F.the-row) (EL.makes F.the-type F′.the-plain 𝓤 H A) f (u ∷ []) isf $ fjoin ! $
       owned ! N.the-row (Is N.the-row) (LL.makes N.the-type N′.the-plain 𝓤 H A) c (w ∷ []) isc $ fjoin ! $ nothing ! $ done !
 
-  plus-said : (c : Counts) (f : Field) (d : Counts) → ent 𝓤 (ensured 𝓤 H A plus.ended (plus.clauses 𝓤 H A mem′ run) tt (c, (f, tt)) tt d) (fact 𝓤 (d ≡ plusField c f))
+  plus-said : (c : Tally) (f : Field) (d : Tally) → ent 𝓤 (ensured 𝓤 H A plus.ended (plus.clauses 𝓤 H A mem′ run) tt (c, (f, tt)) tt d) (fact 𝓤 (d ≡ plusField c f))
   plus-said c f d = exE 𝓤 _ (λ ws. snd∗ 𝓤 (sem 𝓤 H A (lasts plus.ended tt (c, (f, tt)) ws)) (fact 𝓤 (d ≡ plusField c f)))
 
   -- ---- the exit
-  exits : (c : Counts) (w : Val) → Is N.the-row c (w ∷ []) → c ≡ countsOf (now s) → ent 𝓤 (⋆ 𝓤 H A (tok ∷ ‵ OwnS ∷ [])) (Post w)
+  exits : (c : Tally) (w : Val) → Is N.the-row c (w ∷ []) → c ≡ tallyOf (now s) → ent 𝓤 (⋆ 𝓤 H A (tok ∷ ‵ OwnS ∷ [])) (Post w)
   exits c w is e =
       qed W (tok ∷ ‵ OwnS ∷ []) ∵
       suffices ! _ (ends-at 𝓤 H A count.ended stayed (count.clauses 𝓤 H A mem′ run) W (((κ, tt), (q, tt), tt, (s, tt), (v ∷ [], tt)), tt) w c (tt, tt) (tt, tt)) $ says ! e $
       frame ! $ nothing ! $ move ! (1 ∷ 0 ∷ []) $ fjoin ! $ frame ! $ owned ! N.the-row (Is N.the-row) (LL.makes N.the-type N′.the-plain 𝓤 H A) c (w ∷ []) is $ done !
 
   module _ (𝓣 : Tables 𝓤 H) (known-new : Triple 𝓤 (𝓣 .C #reader·new) (New 𝓤 H A mem′ run)) (known-next : Triple 𝓤 (𝓣 .C #reader·next) (Next 𝓤 H A mem′ run))
-      (known-last : Triple 𝓤 (𝓣 .C #reader·count·is-last) (IsLast 𝓤 H A mem′ run)) (known-plus : Triple 𝓤 (𝓣 .C #reader·count·plus) (Plus 𝓤 H A mem′ run)) (fits : length (now s) < 2 ^ 64) where
+      (known-over : Triple 𝓤 (𝓣 .C #reader·count·is-over) (IsOver 𝓤 H A mem′ run)) (known-plus : Triple 𝓤 (𝓣 .C #reader·count·plus) (Plus 𝓤 H A mem′ run)) (fits : length (now s) < 2 ^ 64) where
     abbrev C : Calls 𝓤 H
     C = 𝓣 .C
 
@@ -283,7 +283,7 @@ module _ {M : Type 1} (𝓤 : URA M) (H : Heap 𝓤) (A : Atoms 𝓤) (W : Given
 
       -- the reader's place, the counts, and their machine value
       abbrev State : Type 0
-      State = ℕ × (Counts × Val)
+      State = ℕ × (Tally × Val)
 
       abbrev At : State → List (Item 𝓤)
       At x = ‵ (cell l₂ (at (x .0))) ∷ ‵ (Own (at (x .0))) ∷ ‵ (fat fullShare N′.mir l₃ 0 (x .1 .1)) ∷ ‵ (froom F′.mir l₄ 0) ∷ ‵ (froom reader l₅ 0) ∷ ‵ (froom lent l₆ 0) ∷ ‵ (froom tyBool l₇ 0) ∷ Frame
@@ -315,7 +315,7 @@ module _ {M : Type 1} (𝓤 : URA M) (H : Heap 𝓤) (A : Atoms 𝓤) (W : Given
       abbrev adds : Code
       adds = call #reader·count·plus (copy (place 3 []) ∷ copy (place 4 []) ∷ []) (place 3 [])
 
-      turn-at : (t n : ℕ) (c : Counts) (z : Val) → Facts t (n, (c, z)) → ent 𝓤 (⋆ 𝓤 H A (At (n, (c, z)))) (Wp 𝓤 H C Λ En mirs.turn-1 (afterTurn 𝓤 H (Below t) Left))
+      turn-at : (t n : ℕ) (c : Tally) (z : Val) → Facts t (n, (c, z)) → ent 𝓤 (⋆ 𝓤 H A (At (n, (c, z)))) (Wp 𝓤 H C Λ En mirs.turn-1 (afterTurn 𝓤 H (Below t) Left))
       unfolding afterTurn
       turn-at t n c z h =
           qed W (At (n, (c, z))) ∵ exec ! C Λ En mirs.turn-1 (anyQ (afterTurn 𝓤 H (Below t) Left)) $
@@ -337,10 +337,10 @@ module _ {M : Type 1} (𝓤 : URA M) (H : Heap 𝓤) (A : Atoms 𝓤) (W : Given
           use3 W (later (‵ (mem (B κ) .lies (stepped (at n)) l₂ 0))) (ref-back 𝓤 H A W (B κ) (α ∷ κ) δ (stepped (at n)) l₂ 0) $ await ! tt $
           use1 W (‵ (cell l₂ (stepped (at n))) ⊛ ‵ (Own (stepped (at n)))) (pick-up l₂ (stepped (at n))) $ split ! $
           -- [_2; what the reader owns; the token; the field; true; _3; _4; _5; _6; _7; _1; _0; what delta owns; …]
-          move ! (3 ∷ []) $ use1 W (raw (IsLast 𝓤 H A mem′ run .pre (to-last f u))) (goes-last f u) $
-          calls-at ! fm (IsLast 𝓤 H A mem′ run) known-last (to-last f u) (and-then ! (load ! (from ! (stop !)) (look ! 6 refl)) (no-more !)) (λ w.
-          use1 W (later (some (λ (y : Bool). (‵ ftrue ⊛ ‵ (Boolean .own y (w ∷ []))) ⊛ raw (ensured 𝓤 H A is-last.ended (is-last.clauses 𝓤 H A mem′ run) tt (f, tt) tt y)))) (id⊢ 𝓤 _) $ await ! tt $ pick ! (λ y.
-          split ! $ move ! (1 ∷ []) $ use1 W (raw (fact 𝓤 (y ≡ isLast f))) (last-said f y) $ heard ! (y ≡ isLast f) (λ e′. split ! $ move ! (1 ∷ []) $
+          move ! (3 ∷ []) $ use1 W (raw (IsOver 𝓤 H A mem′ run .pre (to-over f u))) (goes-over f u) $
+          calls-at ! fm (IsOver 𝓤 H A mem′ run) known-over (to-over f u) (and-then ! (load ! (from ! (stop !)) (look ! 6 refl)) (no-more !)) (λ w.
+          use1 W (later (some (λ (y : Bool). (‵ ftrue ⊛ ‵ (Boolean .own y (w ∷ []))) ⊛ raw (ensured 𝓤 H A is-over.ended (is-over.clauses 𝓤 H A mem′ run) tt (f, tt) tt y)))) (id⊢ 𝓤 _) $ await ! tt $ pick ! (λ y.
+          split ! $ move ! (1 ∷ []) $ use1 W (raw (fact 𝓤 (y ≡ isOver f))) (over-said f y) $ heard ! (y ≡ isOver f) (λ e′. split ! $ move ! (1 ∷ []) $
           facts ! Boolean (Is Boolean) (shows 𝓤 H A Boolean) y (w ∷ []) (λ isy.
           land ! (from ! (stop !)) (init ! 9 refl (bool-lawful 𝓤 H A W .typed y _ isy .0)) $ rewrite ! 9 (λ (b : Val). ‵ (fat fullShare tyBool l₇ 0 b)) (ap only isy) refl $
           -- [true; _2; what the reader owns; the token; true; _3; _4; _5; _6; _7; _1; _0; what delta owns; …]
@@ -354,7 +354,7 @@ module _ {M : Type 1} (𝓤 : URA M) (H : Heap 𝓤) (A : Atoms 𝓤) (W : Given
           (λ other. skips ! $ exec ! C Λ En adds (anyQ (afterTurn 𝓤 H (Below t) Left)) $
           use0 W (raw (Plus 𝓤 H A mem′ run .pre (to-plus c z f u))) (goes-plus c z f u (h .1 .1) isf (room (more f e y e′ other))) $
           calls-at-last ! fm (Plus 𝓤 H A mem′ run) known-plus (to-plus c z f u) (and-then ! (load ! (from ! (stop !)) (look ! 6 refl)) (and-then ! (load ! (from ! (stop !)) (look ! 7 refl)) (no-more !))) (λ z′.
-          use1 W (later (some (λ (d : Counts). (‵ ftrue ⊛ ‵ (N.the-row .own d (z′ ∷ []))) ⊛ raw (ensured 𝓤 H A plus.ended (plus.clauses 𝓤 H A mem′ run) tt (c, (f, tt)) tt d)))) (id⊢ 𝓤 _) $ await ! tt $ pick ! (λ d.
+          use1 W (later (some (λ (d : Tally). (‵ ftrue ⊛ ‵ (N.the-row .own d (z′ ∷ []))) ⊛ raw (ensured 𝓤 H A plus.ended (plus.clauses 𝓤 H A mem′ run) tt (c, (f, tt)) tt d)))) (id⊢ 𝓤 _) $ await ! tt $ pick ! (λ d.
           split ! $ move ! (1 ∷ []) $ use1 W (raw (fact 𝓤 (d ≡ plusField c f))) (plus-said c f d) $ heard ! (d ≡ plusField c f) (λ e″. split ! $ move ! (1 ∷ []) $
           facts ! N.the-row (Is N.the-row) (shows 𝓤 H A N.the-row) d (z′ ∷ []) (λ isd.
           -- [true; true; _2; what the reader owns; the token; true; _3; _4; _5; _6; _7; _1; _0; what delta owns; …]
@@ -362,7 +362,7 @@ module _ {M : Type 1} (𝓤 : URA M) (H : Heap 𝓤) (A : Atoms 𝓤) (W : Given
           keep ! (2 ∷ 3 ∷ 6 ∷ 7 ∷ 8 ∷ 9 ∷ 10 ∷ 11 ∷ 12 ∷ 4 ∷ 13 ∷ 14 ∷ 15 ∷ 16 ∷ 17 ∷ 18 ∷ 19 ∷ 20 ∷ 21 ∷ []) $
           by ! (below t (behind (found (at n)) n, (d, z′)) (less f (e .0) (more f e y e′ other)) (counted f (e .0) d e″ (more f e y e′ other)) isd)))))))))))))))))
         where
-          more : (f : Field) {r : DeltaReader} → Found n f r → (y : Bool) → y ≡ isLast f → Holds (not y) → More (now s) n f c
+          more : (f : Field) {r : DeltaReader} → Found n f r → (y : Bool) → y ≡ isOver f → Holds (not y) → More (now s) n f c
           more f e y e′ other = counted-more (now s) n f (e .0) c (h .1 .0) (sym e′ ∙ fails y other)
 
           room : {f : Field} → More (now s) n f c → count-specs.Room c
@@ -371,16 +371,16 @@ module _ {M : Type 1} (𝓤 : URA M) (H : Heap 𝓤) (A : Atoms 𝓤) (W : Given
           less : (f : Field) → f ≡ found (at n) → More (now s) n f c → length (now s) - behind (found (at n)) n < t
           less f e m = subst (λ (k : ℕ). length (now s) - behind (found (at n)) n < k) (h .0) (subst (λ (g : Field). length (now s) - behind g n < length (now s) - n) e (m .less))
 
-          counted : (f : Field) → f ≡ found (at n) → (d : Counts) → d ≡ plusField c f → More (now s) n f c → Counted (now s) (behind (found (at n)) n) d
-          counted f e d e″ m = subst (λ (g : Field). Counted (now s) (behind g n) d) e (subst (λ (k : Counts). Counted (now s) (behind f n) k) (sym e″) (m .counted))
+          counted : (f : Field) → f ≡ found (at n) → (d : Tally) → d ≡ plusField c f → More (now s) n f c → Counted (now s) (behind (found (at n)) n) d
+          counted f e d e″ m = subst (λ (g : Field). Counted (now s) (behind g n) d) e (subst (λ (k : Tally). Counted (now s) (behind f n) k) (sym e″) (m .counted))
 
       turns : (t : ℕ) → ent 𝓤 (Inv t) (Wp 𝓤 H C Λ En mirs.turn-1 (afterTurn 𝓤 H (Below t) Left))
       turns t = exE 𝓤 (λ (x : State). guard 𝓤 (Facts t x) (⋆ 𝓤 H A (At x))) (λ x. guardE 𝓤 (Facts t x) (⋆ 𝓤 H A (At x)) (λ h. turn-at t (x .0) (x .1 .0) (x .1 .1) h))
 
-      loops : (c : Counts) (z : Val) → Counted (now s) 0 c → Is N.the-row c (z ∷ []) → ent 𝓤 (⋆ 𝓤 H A (At (0, (c, z)))) (Wp 𝓤 H C Λ En (loop mirs.turn-1) Left)
+      loops : (c : Tally) (z : Val) → Counted (now s) 0 c → Is N.the-row c (z ∷ []) → ent 𝓤 (⋆ 𝓤 H A (At (0, (c, z)))) (Wp 𝓤 H C Λ En (loop mirs.turn-1) Left)
       loops c z h is = via 𝓤 (Inv (length (now s) - 0)) (enters (length (now s) - 0) (0, (c, z)) (refl, (h, is))) (loop-rule 𝓤 H (W .laws) 𝓣 _<_ (Nat·lt-wfRel .wf) En mirs.turn-1 Left Inv turns (length (now s) - 0))
 
-      abbrev none : Counts
+      abbrev none : Tally
       none = record { announced = 0; withdrawn = 0 }
 
       -- the MIR up to the loop: a reader is made
@@ -409,10 +409,10 @@ module _ {M : Type 1} (𝓤 : URA M) (H : Heap 𝓤) (A : Atoms 𝓤) (W : Given
         starts l₀ l₁ l₂ l₃ l₄ l₅ l₆ l₇))))))))
 
 module _ {M : Type 1} (𝓤 : URA M) (H : Heap 𝓤) (A : Atoms 𝓤) (W : Given 𝓤 H A) (mem′ : Memory → SProp 𝓤) (run : Routine → Fun 𝓤) (𝓣 : Tables 𝓤 H) (known-new : Triple 𝓤 (𝓣 .C #reader·new) (New 𝓤 H A mem′ run))
-    (known-next : Triple 𝓤 (𝓣 .C #reader·next) (Next 𝓤 H A mem′ run)) (known-last : Triple 𝓤 (𝓣 .C #reader·count·is-last) (IsLast 𝓤 H A mem′ run)) (known-plus : Triple 𝓤 (𝓣 .C #reader·count·plus) (Plus 𝓤 H A mem′ run)) where
+    (known-next : Triple 𝓤 (𝓣 .C #reader·next) (Next 𝓤 H A mem′ run)) (known-over : Triple 𝓤 (𝓣 .C #reader·count·is-over) (IsOver 𝓤 H A mem′ run)) (known-plus : Triple 𝓤 (𝓣 .C #reader·count·plus) (Plus 𝓤 H A mem′ run)) where
   count-walks : Walks 𝓤 H A count.ended stayed (WpFn 𝓤 H (𝓣 .C) (𝓣 .Λ) code.function) (count.clauses 𝓤 H A mem′ run)
   count-walks = walked 𝓤 H A count.ended stayed (count.clauses 𝓤 H A mem′ run) (WpFn 𝓤 H (𝓣 .C) (𝓣 .Λ) code.function) (λ κs. (slice-vals, tt)) (λ κs. (shr-slice-tells (named 0) (κs .0) u8, tt))
-      (λ κs qs bounds a g are. via 𝓤 _ (fst∗ 𝓤 _ (emp 𝓤)) (walk 𝓤 H A W mem′ run (κs .0) (qs .0) (a .0) 𝓣 known-new known-next known-last known-plus (are .0 .0 .1 .0) (are .0)))
+      (λ κs qs bounds a g are. via 𝓤 _ (fst∗ 𝓤 _ (emp 𝓤)) (walk 𝓤 H A W mem′ run (κs .0) (qs .0) (a .0) 𝓣 known-new known-next known-over known-plus (are .0 .0 .1 .0) (are .0)))
 
   count-meets : Meets 𝓤 H A count.signature (WpFn 𝓤 H (𝓣 .C) (𝓣 .Λ) code.function) (count.spec 𝓤 H A mem′ run)
   count-meets = walk-meets 𝓤 H A count.ended stayed W (goes-none-slice 𝓤 H A W 1 (0 ∷ []) tt (plain (λ _. u8)) yes, tt) (count.clauses 𝓤 H A mem′ run) (WpFn 𝓤 H (𝓣 .C) (𝓣 .Λ) code.function) (WpFn-mono 𝓤 H (W .laws) 𝓣 code.function) count-walks
@@ -425,5 +425,5 @@ count-spec 𝓤 H 𝓜 𝓖 𝓡 =
     (count-meets 𝓤 H (𝓖 .A) (givenOf 𝓤 H 𝓜 𝓖) (𝓜 .mem) (𝓡 .run) (tablesOf 𝓤 H 𝓜 (tables 𝓤 H 𝓜 𝓡 code.env))
     (cited 𝓤 H (New 𝓤 H (𝓖 .A) (𝓜 .mem) (𝓡 .run)) 𝓜 𝓡 code.env #reader·new new-def.routine code.calls-reader·new (new-thm.met 𝓤 H 𝓜 𝓖 𝓡))
     (cited 𝓤 H (Next 𝓤 H (𝓖 .A) (𝓜 .mem) (𝓡 .run)) 𝓜 𝓡 code.env #reader·next next-def.routine code.calls-reader·next (next-thm.met 𝓤 H 𝓜 𝓖 𝓡))
-    (cited 𝓤 H (IsLast 𝓤 H (𝓖 .A) (𝓜 .mem) (𝓡 .run)) 𝓜 𝓡 code.env #reader·count·is-last is-last-def.routine code.calls-reader·count·is-last (is-last-thm.met 𝓤 H 𝓜 𝓖 𝓡))
+    (cited 𝓤 H (IsOver 𝓤 H (𝓖 .A) (𝓜 .mem) (𝓡 .run)) 𝓜 𝓡 code.env #reader·count·is-over is-over-def.routine code.calls-reader·count·is-over (is-over-thm.met 𝓤 H 𝓜 𝓖 𝓡))
     (cited 𝓤 H (Plus 𝓤 H (𝓖 .A) (𝓜 .mem) (𝓡 .run)) 𝓜 𝓡 code.env #reader·count·plus plus-def.routine code.calls-reader·count·plus (plus-thm.met 𝓤 H 𝓜 𝓖 𝓡)))
