@@ -1,19 +1,19 @@
 -- Counting a delta's fields: what the code that counts asks.
 use Prim.Native.Nat.{ℕ, _+_, _-_, _%_, _<_, _≤_, _^_}
-use mathlib.Core.Path.{_≡_, refl, sym, ap, _∙_}
+use mathlib.Core.Path.{_≡_, refl}
 use mathlib.Core.Bool.{Bool, true, false, cond}
 use mathlib.Core.List.{List, []}
 use native.Mathlib.Omega.{arith}
-use borrow.Author.Tests.{eq-eqb, ne-eqb}
+use borrow.Author.Tests.{ne-eqb}
 use lib.ListN.{length, drop}
 use Rattle.field.specs.declared.head.Field.{Field}
 use Rattle.field.specs.declared.head.Field.the-variants.{End, Cut, Whole}
 use Rattle.field.specs.Cells.{cells}
-use Rattle.field.specs.Places.{part, fieldAt}
+use Rattle.field.specs.Places.{fieldAt}
 use Rattle.field.proofs.Fields.{cut-at, body-within, field-long}
 use Rattle.field.proofs.Run.{cells-at-cut}
 use Rattle.field.proofs.Walk.{good-end, good-cells}
-use Rattle.payload.specs.Count.{isAnnounced, isWithdrawn, countTags, announced, withdrawn}
+use Rattle.payload.specs.Count.{isAnnounced, isWithdrawn, announced, withdrawn}
 use Rattle.reader.specs.declared.count.Tally.{Tally}
 use Rattle.reader.specs.Step.{behind}
 use Rattle.reader.specs.Count.{announcesTag, withdrawsTag, Room, plusField, isOver, tallyOf}

@@ -22,7 +22,7 @@ use Rattle.payload.specs.Payload.{entries, changes}
 use Rattle.payload.specs.Valid.{IsMap}
 use Rattle.payload.proofs.Faithful.{faithful}
 use Rattle.reader.specs.declared.DeltaReader.{DeltaReader}
-use Rattle.reader.specs.Step.{start, stepped}
+use Rattle.reader.specs.Step.{start}
 use Rattle.reader.specs.Stepping.{answers, steps, wholes}
 use Rattle.reader.specs.Reading.{said, size, Reads}
 

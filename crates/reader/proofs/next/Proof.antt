@@ -40,7 +40,7 @@ use denote.Struct.Values.{Values}
 use denote.Triple.Statement.{Contract, Triple}
 use denote.Triple.Call.{calls-at}
 use denote.Triple.Clauses.{ensured, lasts}
-use denote.Triple.Entry.{Vals, onEntry}
+use denote.Triple.Entry.{onEntry}
 use denote.Triple.Spec.{Meets, tripleOf}
 use denote.Triple.Table.{entered, cited}
 use denote.Triple.Walked.{says, Stays, stay-ref, walkOf, goes-ref, Walks, ends-at, walked, walk-meets}
@@ -52,7 +52,7 @@ use Rattle.field.proofs.head.field_at.Symbol as field-at-def
 use Rattle.field.proofs.head.field_at.Symbol.{name as #field·head·field-at}
 use Rattle.field.proofs.head.field_at.Met as field-at-thm
 use Rattle.reader.specs.declared.DeltaReader.{DeltaReader}
-use Rattle.reader.specs.Step.{behind, found, stepped}
+use Rattle.reader.specs.Step.{behind, found}
 use Rattle.reader.proofs.DeltaReader as T
 use Rattle.reader.proofs.DeltaReader.Laws as T′
 use Rattle.reader.proofs.behind_of as behind-of
