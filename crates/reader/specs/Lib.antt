@@ -1,0 +1,4 @@
+pub mod Step
+pub mod Stepping
+pub mod Reading
+pub mod Count
