@@ -1,9 +1,11 @@
+-- what the entries answer
 pub mod Refusal
 pub mod Admission
+pub mod Fit
+pub mod Answer
+-- what the contracts of inner functions say
 pub mod Place
 pub mod Reading
 pub mod Turn
 pub mod Write
 pub mod Walk
-pub mod Fit
-pub mod Answer

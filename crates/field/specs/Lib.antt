@@ -1,3 +1,4 @@
+-- what good bytes are
 pub mod Number
 pub mod Origin
 pub mod RouterKey
@@ -6,6 +7,8 @@ pub mod Tag
 pub mod Head
 pub mod Key
 pub mod Verdict
+-- the fields of good bytes
 pub mod Cells
 pub mod Run
+-- what the code's places stand for
 pub mod Places
