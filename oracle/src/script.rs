@@ -11,14 +11,20 @@ use crate::model::{self, Form, Refused};
 /// Filled into outputs and stores, to see what stays.
 const MARK: u8 = 0xA5;
 
+/// How long the stores and the output are in all.
+const SIZE: usize = 65_536;
+
+/// How long a list may be.
+pub const LIST: usize = 262_144;
+
 /// Bytes longer than this are written as their length and sum.
 const SHOWN: usize = 1024;
 
-/// The answers to a list of lines, a line each. `run` answers a call; `size` is how long the stores and the
-/// output are in all.
-pub fn play(list: &str, size: usize, run: impl FnMut(&Call) -> Outcome) -> String {
-    let mut player =
-        Player { run, size, state: State::ZERO, stores: [Store::marked(size), Store::marked(size)] };
+/// The answers to a list of lines, a line each. `run` answers a call.
+pub fn play(list: &str, run: impl FnMut(&Call) -> Outcome) -> String {
+    assert!(list.len() <= LIST, "a list is too long for the program");
+    let stores = [(); 2].map(|_| Store::holding(0, b""));
+    let mut player = Player { run, state: State::ZERO, stores };
     let lines = list.lines().filter(|line| !line.is_empty() && !line.starts_with('#'));
     lines.map(|line| player.line(&Line(line.split(' ').collect()))).collect()
 }
@@ -102,15 +108,11 @@ struct Store {
 }
 
 impl Store {
-    fn marked(size: usize) -> Self {
-        Store { bytes: vec![MARK; size], room: 0 }
-    }
-
     /// Lent so much, with these bytes at its start and the mark behind them.
-    fn holding(size: usize, room: usize, held: &[u8]) -> Self {
-        let mut store = Store { room: room.min(size), ..Store::marked(size) };
-        store.bytes[..held.len()].copy_from_slice(held);
-        store
+    fn holding(room: usize, held: &[u8]) -> Self {
+        let mut bytes = vec![MARK; SIZE];
+        bytes[..held.len()].copy_from_slice(held);
+        Store { bytes, room: room.min(SIZE) }
     }
 
     fn lent(&self) -> Vec<u8> {
@@ -125,7 +127,6 @@ impl Store {
 /// The history and the stores that the lines so far left.
 struct Player<F> {
     run: F,
-    size: usize,
     state: State,
     stores: [Store; 2],
 }
@@ -173,7 +174,7 @@ impl<F: FnMut(&Call) -> Outcome> Player<F> {
             _ => Call::apply(first, second, lent),
         };
         let left = (self.run)(&call);
-        let out = self.whole(&left.bytes[2]);
+        let out = whole(&left.bytes[2]);
         let answer = &left.answer;
         match (call.entry, answer.kind) {
             (_, 0) => refused(answer) + kept(&out),
@@ -181,11 +182,6 @@ impl<F: FnMut(&Call) -> Outcome> Player<F> {
             (Entry::Apply, _) => format!(" snapshot{}", written(&out, answer.length as usize)),
             _ => format!(" serial {}{}", answer.serial, served(answer, &out)),
         }
-    }
-
-    /// The output with what stands behind the lent part.
-    fn whole(&self, lent: &[u8]) -> Vec<u8> {
-        Store::holding(self.size, 0, lent).bytes
     }
 
     /// timing NAME REFRESH RETRY EXPIRE
@@ -197,7 +193,7 @@ impl<F: FnMut(&Call) -> Outcome> Player<F> {
 
     /// create NAME SESSION KEEP SNAPSHOT-ROOM DELTA-ROOM
     fn create(&mut self, line: &Line<'_>) -> String {
-        self.stores = [3, 4].map(|i| Store::holding(self.size, line.number(i) as usize, b""));
+        self.stores = [3, 4].map(|i| Store::holding(line.number(i) as usize, b""));
         let [snapshots, deltas] = self.stores.each_ref().map(Store::lent);
         let left = (self.run)(&Call::create(line.number(1), line.u32(2), snapshots, deltas));
         self.state = left.state;
@@ -209,7 +205,7 @@ impl<F: FnMut(&Call) -> Outcome> Player<F> {
 
     /// hold NAME SNAPSHOT-ROOM SNAPSHOT DELTA-ROOM DELTAS
     fn hold(&mut self, line: &Line<'_>) -> String {
-        self.stores = [1, 3].map(|i| Store::holding(self.size, line.number(i) as usize, &line.bytes(i + 1)));
+        self.stores = [1, 3].map(|i| Store::holding(line.number(i) as usize, &line.bytes(i + 1)));
         String::new()
     }
 
@@ -248,9 +244,7 @@ impl<F: FnMut(&Call) -> Outcome> Player<F> {
         let mut new = line.bytes(2);
         let mut out = String::new();
         for _ in 0..line.number(1) {
-            if !self.update(new.clone()).starts_with(" changed") {
-                out += " NOT CHANGED";
-            }
+            out += &self.update(new.clone());
             let last = new.last_chunk_mut().expect("four bytes");
             *last = (u32::from_be_bytes(*last) + 1).to_be_bytes();
         }
@@ -263,7 +257,7 @@ impl<F: FnMut(&Call) -> Outcome> Player<F> {
         let (session, serial) = (line.number(1) as u16, line.u32(2));
         let lent = vec![MARK; line.number(3) as usize];
         let left = (self.run)(&Call::query(self.state, session, serial, snapshots, deltas, lent));
-        let out = self.whole(&left.bytes[2]);
+        let out = whole(&left.bytes[2]);
         let answer = match left.answer.kind {
             0 => refused(&left.answer) + kept(&out),
             _ => served(&left.answer, &out),
@@ -280,6 +274,11 @@ impl<F: FnMut(&Call) -> Outcome> Player<F> {
         };
         named(&left) + &answer
     }
+}
+
+/// The output with what stands behind the lent part.
+fn whole(lent: &[u8]) -> Vec<u8> {
+    Store::holding(0, lent).bytes
 }
 
 //------------ Writing -------------------------------------------------------

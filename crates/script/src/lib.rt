@@ -1,5 +1,5 @@
 // Lists of calls, a line each: the calls are made and their answers written, a line each. For programs that run worked
-// cases; the file `runs` of the program `examples` says how lines are written.
+// cases; crates/examples/data/runs says how lines are written.
 mod bytes;
 mod entries;
 mod report;
@@ -17,13 +17,13 @@ fn other(
     name: usize,
     first: &mut [u8],
     second: &mut [u8],
-    out: &mut [u8],
+    third: &mut [u8],
 ) {
     if text::is_case(letter) {
-        entries::case(letter, text, name, first, second, out);
+        entries::case(letter, text, name, first, second, third);
         return;
     }
-    runs::ask(world, letter, text, name, first, second, out);
+    runs::ask(world, letter, text, name, first, second, third);
 }
 
 // The history after a line, by the line's letter.
@@ -34,17 +34,16 @@ fn call(
     name: usize,
     first: &mut [u8],
     second: &mut [u8],
-    new: &mut [u8],
-    out: &mut [u8],
+    third: &mut [u8],
 ) -> World {
     match letter {
-        b'u' => runs::update_line(world, text, name, first, second, new),
-        b'g' => runs::go_line(world, text, name, first, second, new),
+        b'u' => runs::update_line(world, text, name, first, second, third),
+        b'g' => runs::go_line(world, text, name, first, second, third),
         b'C' => runs::create_line(text, name, first, second),
         b'h' => runs::hold_line(world, text, name, first, second),
         b'S' => runs::state_line(world, text, name),
         _ => {
-            other(world, letter, text, name, first, second, out);
+            other(world, letter, text, name, first, second, third);
             world
         }
     }
@@ -57,8 +56,7 @@ fn line(
     at: usize,
     first: &mut [u8],
     second: &mut [u8],
-    new: &mut [u8],
-    out: &mut [u8],
+    third: &mut [u8],
 ) -> World {
     let letter = text::letter(text, at);
     if text::is_passed(letter) {
@@ -66,13 +64,13 @@ fn line(
     }
     let name = text::word_after(text, at);
     report::write_head(text, at, name);
-    let after = call(world, letter, text, name, first, second, new, out);
+    let after = call(world, letter, text, name, first, second, third);
     runs::write_after(after, letter);
     write(b"\n");
     after
 }
 
-fn lines(text: &[u8], first: &mut [u8], second: &mut [u8], new: &mut [u8], out: &mut [u8]) {
+fn lines(text: &[u8], first: &mut [u8], second: &mut [u8], third: &mut [u8]) {
     let mut world = runs::start();
     let mut at = 0;
     let mut turns: usize = 100000;
@@ -81,7 +79,7 @@ fn lines(text: &[u8], first: &mut [u8], second: &mut [u8], new: &mut [u8], out: 
         if text.len() <= at {
             return;
         }
-        world = line(world, text, at, first, second, new, out);
+        world = line(world, text, at, first, second, third);
         at = text::line_after(text, at);
     }
 }
@@ -98,19 +96,15 @@ fn load(path: &[u8], text: &mut [u8]) -> usize {
     n
 }
 
-// Plays the list in a file, which is read into text whole. The inputs of a case, or the stores of a run, are put into
-// first and second, so a list has cases or runs; an update's snapshot is put into new.
-pub fn play(
-    path: &[u8],
-    text: &mut [u8],
-    first: &mut [u8],
-    second: &mut [u8],
-    new: &mut [u8],
-    out: &mut [u8],
-) {
-    let n = load(path, text);
-    if text.len() < n {
-        return;
+// Plays the list in a file of at most 262,144 bytes. The first two buffers are the inputs of a case, or the stores of a
+// run, so a list has cases or runs; the third is an output, or an update's snapshot.
+pub fn play(path: &[u8]) {
+    let mut text = [0u8; 262144];
+    let mut first = io::large_buffer();
+    let mut second = io::large_buffer();
+    let mut third = io::large_buffer();
+    let n = load(path, &mut text);
+    if n <= 262144 {
+        lines(&text[0..n], &mut first, &mut second, &mut third);
     }
-    lines(&text[0..n], first, second, new, out);
 }

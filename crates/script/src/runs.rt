@@ -13,11 +13,7 @@ use history::notify::notify;
 use history::notify::ready;
 use history::query::query;
 use history::update::update_with;
-use past::full::Full;
-use past::query::Queried;
 use past::state::History;
-use past::update::Update;
-use past::update::Updated;
 use serial::Serial;
 use serial::Session;
 
@@ -134,11 +130,20 @@ pub fn state_line(world: World, text: &[u8], name: usize) -> World {
     }
 }
 
-fn updated(world: World, new: &[u8], snapshots: &mut [u8], deltas: &mut [u8]) -> Updated {
+// The history after an update.
+fn updated(world: World, new: &[u8], snapshots: &mut [u8], deltas: &mut [u8]) -> World {
     let s = within(world.snapshots, snapshots.len());
     let d = within(world.deltas, deltas.len());
-    let history = world.history;
-    update_with(history, new, &mut snapshots[0..s], &mut deltas[0..d])
+    let before = world.history;
+    let after = update_with(before, new, &mut snapshots[0..s], &mut deltas[0..d]);
+    let answer = after.answer;
+    report::write_update(answer);
+    let history = after.history;
+    World {
+        history,
+        snapshots: s,
+        deltas: d,
+    }
 }
 
 // update NAME SNAPSHOT
@@ -148,42 +153,10 @@ pub fn update_line(
     name: usize,
     snapshots: &mut [u8],
     deltas: &mut [u8],
-    a: &mut [u8],
+    new: &mut [u8],
 ) -> World {
-    let n = read(text, name, 1, a);
-    let after = updated(world, &a[0..n], snapshots, deltas);
-    let answer = after.answer;
-    report::write_update(answer);
-    let history = after.history;
-    World {
-        history,
-        snapshots: world.snapshots,
-        deltas: world.deltas,
-    }
-}
-
-fn is_changed(answer: Update) -> bool {
-    match answer {
-        Update::First => false,
-        Update::Unchanged => false,
-        Update::Changed(_) => true,
-        Update::Refused(_) => false,
-    }
-}
-
-// One update of many.
-fn step(world: World, new: &[u8], snapshots: &mut [u8], deltas: &mut [u8]) -> World {
-    let after = updated(world, new, snapshots, deltas);
-    let answer = after.answer;
-    if !is_changed(answer) {
-        write(b" NOT CHANGED");
-    }
-    let history = after.history;
-    World {
-        history,
-        snapshots: world.snapshots,
-        deltas: world.deltas,
-    }
+    let n = read(text, name, 1, new);
+    updated(world, &new[0..n], snapshots, deltas)
 }
 
 // Updates, each with the number of the last four bytes one higher.
@@ -197,7 +170,7 @@ fn steps(
     let mut now = world;
     let mut k = 0;
     while k < times {
-        now = step(now, new, snapshots, deltas);
+        now = updated(now, new, snapshots, deltas);
         bytes::ascend_last(new);
         k += 1;
     }
@@ -211,32 +184,11 @@ pub fn go_line(
     name: usize,
     snapshots: &mut [u8],
     deltas: &mut [u8],
-    a: &mut [u8],
+    new: &mut [u8],
 ) -> World {
     let times = nth_number(text, name, 1);
-    let n = read(text, name, 2, a);
-    steps(world, times, snapshots, deltas, &mut a[0..n])
-}
-
-fn queried(
-    world: World,
-    session: Session,
-    asked: Serial,
-    snapshots: &[u8],
-    deltas: &[u8],
-    out: &mut [u8],
-) -> Queried {
-    let s = within(world.snapshots, snapshots.len());
-    let d = within(world.deltas, deltas.len());
-    let history = world.history;
-    query(
-        history,
-        session,
-        asked,
-        &snapshots[0..s],
-        &deltas[0..d],
-        out,
-    )
+    let n = read(text, name, 2, new);
+    steps(world, times, snapshots, deltas, &mut new[0..n])
 }
 
 // query NAME SESSION SERIAL ROOM
@@ -252,20 +204,24 @@ fn query_line(
     let session = Session((nth_number(text, name, 1) % 65536) as u16);
     let asked = Serial(narrow(nth_number(text, name, 2)));
     let room = within(nth_number(text, name, 3), out.len());
-    let got = queried(world, session, asked, snapshots, deltas, &mut out[0..room]);
-    report::write_query(got, out);
-}
-
-fn fully(world: World, snapshots: &[u8], deltas: &[u8]) -> Full {
     let s = within(world.snapshots, snapshots.len());
     let d = within(world.deltas, deltas.len());
-    let history = world.history;
-    full_answer(history, &snapshots[0..s], &deltas[0..d])
+    let got = query(
+        world.history,
+        session,
+        asked,
+        &snapshots[0..s],
+        &deltas[0..d],
+        &mut out[0..room],
+    );
+    report::write_query(got, out);
 }
 
 // full NAME
 fn full_line(world: World, snapshots: &[u8], deltas: &[u8]) {
-    let got = fully(world, snapshots, deltas);
+    let s = within(world.snapshots, snapshots.len());
+    let d = within(world.deltas, deltas.len());
+    let got = full_answer(world.history, &snapshots[0..s], &deltas[0..d]);
     report::write_full(got, snapshots);
 }
 

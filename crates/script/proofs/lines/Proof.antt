@@ -5,10 +5,10 @@ use Rattle.script.proofs.lines.Statement.{statement}
 use Rattle.script.proofs.lines.Tie as tie
 
 abbrev Inv-loop : tie.InvT-loop
-Inv-loop text first₀ second₀ new₀ out₀ world₀ at₀ turns₀ first second new out world at turns = (length first ≡ length first₀) × (length second ≡ length second₀) × (length new ≡ length new₀) × (length out ≡ length out₀)
+Inv-loop text first₀ second₀ third₀ world₀ at₀ turns₀ first second third world at turns = (length first ≡ length first₀) × (length second ≡ length second₀) × (length third ≡ length third₀)
 
 abbrev μ-loop : tie.MeasureT-loop
-μ-loop text first₀ second₀ new₀ out₀ world₀ at₀ turns₀ first second new out world at turns = turns
+μ-loop text first₀ second₀ third₀ world₀ at₀ turns₀ first second third world at turns = turns
 
 start-requires : tie.Need-start-requires Inv-loop μ-loop
 start-requires c κs = search needs
@@ -28,9 +28,6 @@ same-length-2 c = search needs
 same-length-3 : tie.Need-same-length-3 Inv-loop μ-loop
 same-length-3 c = search needs
 
-same-length-4 : tie.Need-same-length-4 Inv-loop μ-loop
-same-length-4 c = search needs
-
 returns : tie.Need-returns Inv-loop μ-loop
 returns c = search needs
 
@@ -46,17 +43,14 @@ loop-less c = search needs
 loop-again : tie.Need-loop-again Inv-loop μ-loop
 loop-again c = search needs
 
+same-length-4 : tie.Need-same-length-4 Inv-loop μ-loop
+same-length-4 c = search needs
+
 same-length-5 : tie.Need-same-length-5 Inv-loop μ-loop
 same-length-5 c = search needs
 
 same-length-6 : tie.Need-same-length-6 Inv-loop μ-loop
 same-length-6 c = search needs
-
-same-length-7 : tie.Need-same-length-7 Inv-loop μ-loop
-same-length-7 c = search needs
-
-same-length-8 : tie.Need-same-length-8 Inv-loop μ-loop
-same-length-8 c = search needs
 
 returns-2 : tie.Need-returns-2 Inv-loop μ-loop
 returns-2 c = search needs
@@ -73,14 +67,12 @@ lines-spec =
     same-length
     same-length-2
     same-length-3
-    same-length-4
     returns
     line-requires
     line-after-requires
     loop-less
     loop-again
+    same-length-4
     same-length-5
     same-length-6
-    same-length-7
-    same-length-8
     returns-2)

@@ -10,10 +10,10 @@ use oracle::rust::{self, Served};
 #[derive(Default)]
 pub struct Judge {
     beside: Option<Beside>,
-    /// Answers that the Rust gave, or that it confirmed.
-    pub judged: usize,
+    /// Calls on which the Rust agreed.
+    pub agreed: usize,
     /// Times that the Rust served n = 1 at distance 2^31, the one known difference.
-    k6: usize,
+    pub k6: usize,
     /// Refusals: the entry, the number, the argument.
     refusals: BTreeSet<(Entry, u32, u32)>,
     /// Entries that were lent exactly the room that they needed.
@@ -72,7 +72,7 @@ impl Judge {
 
     fn same(&mut self, same: bool, call: &Call) {
         assert!(same, "the Rust says otherwise on\n{call}");
-        self.judged += 1;
+        self.agreed += 1;
     }
 
     //------------ The Rust's history ----------------------------------------
@@ -212,7 +212,7 @@ impl Judge {
         for entry in [Construct, Merge, Apply, Update, Query] {
             assert!(self.exact.contains(&entry), "not met: exact room of {entry:?}");
         }
-        for keep in 1..=64 {
+        for keep in crate::list::KEEPS.iter().copied() {
             assert!(self.held.contains(&(keep, keep)), "not met: a full history of keep {keep}");
         }
         assert_eq!(self.edges.len(), 2, "not met: the wrap or the middle of the serials");

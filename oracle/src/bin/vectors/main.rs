@@ -22,9 +22,9 @@ fn main() -> ExitCode {
     };
     let (mut judge, mut answers) = (judge::Judge::default(), String::new());
     let lists = [list::cases(), list::runs()].map(|list| {
-        let before = judge.judged;
-        answers += &play(&list, list::SIZE, |call| judge.run(call));
-        list::head(&list, judge.judged - before) + &list
+        let (agreed, k6) = (judge.agreed, judge.k6);
+        answers += &play(&list, |call| judge.run(call));
+        list::head(&list, judge.agreed - agreed, judge.k6 - k6) + &list
     });
     judge.met_all();
     fs::create_dir_all(folder.join("data")).expect("the folder can be made");

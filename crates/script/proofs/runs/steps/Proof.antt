@@ -14,8 +14,8 @@ abbrev μ-loop : tie.MeasureT-loop
 loop-holds : tie.Need-loop-holds Inv-loop μ-loop
 loop-holds c = search needs
 
-step-requires : tie.Need-step-requires Inv-loop μ-loop
-step-requires c κs = search needs
+updated-requires : tie.Need-updated-requires Inv-loop μ-loop
+updated-requires c κs = search needs
 
 ascend-last-requires : tie.Need-ascend-last-requires Inv-loop μ-loop
 ascend-last-requires c κs = search needs
@@ -48,7 +48,7 @@ steps-spec =
     Inv-loop
     μ-loop
     loop-holds
-    step-requires
+    updated-requires
     ascend-last-requires
     add-k
     loop-less
