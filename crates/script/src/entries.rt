@@ -13,35 +13,26 @@ use serial::Serial;
 use serial::timing::Timing;
 use serial::timing::clamp;
 
-// construct NAME ROOM SERIAL OLD NEW
-fn construct_line(old: &[u8], new: &[u8], serial: Serial, out: &mut [u8], room: usize) {
-    let lent = within(room, out.len());
-    let answer = construct(old, new, serial, &mut out[0..lent]);
-    report::write_constructed(answer, out);
-}
-
-// merge NAME ROOM SERIAL EARLIER LATER
-fn merge_line(earlier: &[u8], later: &[u8], serial: Serial, out: &mut [u8], room: usize) {
-    let lent = within(room, out.len());
-    let answer = merge(earlier, later, serial, &mut out[0..lent]);
-    report::write_merged(answer, out);
-}
-
-// apply NAME ROOM - SNAPSHOT DELTA
-fn apply_line(snapshot: &[u8], delta: &[u8], out: &mut [u8], room: usize) {
-    let lent = within(room, out.len());
-    let answer = apply(snapshot, delta, &mut out[0..lent]);
-    report::write_applied(answer, out);
-}
-
 fn entry(letter: u8, a: &[u8], b: &[u8], serial: Serial, out: &mut [u8], room: usize) {
+    let lent = within(room, out.len());
     match letter {
-        b'c' => construct_line(a, b, serial, out, room),
-        b'm' => merge_line(a, b, serial, out, room),
-        _ => apply_line(a, b, out, room),
+        b'c' => {
+            let answer = construct(a, b, serial, &mut out[0..lent]);
+            report::write_constructed(answer, out);
+        }
+        b'm' => {
+            let answer = merge(a, b, serial, &mut out[0..lent]);
+            report::write_merged(answer, out);
+        }
+        b'a' => {
+            let answer = apply(a, b, &mut out[0..lent]);
+            report::write_applied(answer, out);
+        }
+        _ => report::write(b" not read"),
     }
 }
 
+// construct NAME ROOM SERIAL OLD NEW, merge NAME ROOM SERIAL EARLIER LATER, apply NAME ROOM - SNAPSHOT DELTA
 fn entry_line(letter: u8, text: &[u8], name: usize, a: &mut [u8], b: &mut [u8], out: &mut [u8]) {
     let room = nth_number(text, name, 1);
     let serial = Serial(narrow(nth_number(text, name, 2)));

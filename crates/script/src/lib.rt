@@ -9,8 +9,8 @@ mod text;
 use report::write;
 use runs::World;
 
-// A line that makes no history: a case, a question, or a look at the stores.
-fn other(
+// A line that leaves the history as it is, by the line's letter: a question, a look at the stores, or a case.
+fn ask(
     world: World,
     letter: u8,
     text: &[u8],
@@ -19,11 +19,14 @@ fn other(
     second: &mut [u8],
     third: &mut [u8],
 ) {
-    if text::is_case(letter) {
-        entries::case(letter, text, name, first, second, third);
-        return;
+    match letter {
+        b'q' => runs::query_line(world, text, name, first, second, third),
+        b'f' => runs::full_line(world, first, second),
+        b'n' => runs::notify_line(world),
+        b'r' => runs::ready_line(world),
+        b'l' => runs::look_line(text, name, first, second),
+        _ => entries::case(letter, text, name, first, second, third),
     }
-    runs::ask(world, letter, text, name, first, second, third);
 }
 
 // The history after a line, by the line's letter.
@@ -43,7 +46,7 @@ fn call(
         b'h' => runs::hold_line(world, text, name, first, second),
         b'S' => runs::state_line(world, text, name),
         _ => {
-            other(world, letter, text, name, first, second, third);
+            ask(world, letter, text, name, first, second, third);
             world
         }
     }

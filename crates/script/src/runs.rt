@@ -2,7 +2,6 @@
 use crate::bytes;
 use crate::bytes::read;
 use crate::report;
-use crate::report::write;
 use crate::text;
 use crate::text::narrow;
 use crate::text::nth_number;
@@ -192,7 +191,7 @@ pub fn go_line(
 }
 
 // query NAME SESSION SERIAL ROOM
-fn query_line(
+pub fn query_line(
     world: World,
     text: &[u8],
     name: usize,
@@ -218,7 +217,7 @@ fn query_line(
 }
 
 // full NAME
-fn full_line(world: World, snapshots: &[u8], deltas: &[u8]) {
+pub fn full_line(world: World, snapshots: &[u8], deltas: &[u8]) {
     let s = within(world.snapshots, snapshots.len());
     let d = within(world.deltas, deltas.len());
     let got = full_answer(world.history, &snapshots[0..s], &deltas[0..d]);
@@ -226,7 +225,7 @@ fn full_line(world: World, snapshots: &[u8], deltas: &[u8]) {
 }
 
 // notify NAME
-fn notify_line(world: World) {
+pub fn notify_line(world: World) {
     let history = world.history;
     let notice = notify(history);
     let session = notice.session;
@@ -235,35 +234,15 @@ fn notify_line(world: World) {
 }
 
 // ready NAME
-fn ready_line(world: World) {
+pub fn ready_line(world: World) {
     let history = world.history;
     report::write_active(ready(history));
 }
 
 // look NAME SNAPSHOT-LENGTH DELTAS-LENGTH: the start of each store, and whether the rest is as it was filled.
-fn look_line(text: &[u8], name: usize, snapshots: &[u8], deltas: &[u8]) {
+pub fn look_line(text: &[u8], name: usize, snapshots: &[u8], deltas: &[u8]) {
     report::write_answer(snapshots, nth_number(text, name, 1));
     report::write_answer(deltas, nth_number(text, name, 2));
-}
-
-// A line that leaves the history as it is, by the line's letter.
-pub fn ask(
-    world: World,
-    letter: u8,
-    text: &[u8],
-    name: usize,
-    snapshots: &[u8],
-    deltas: &[u8],
-    out: &mut [u8],
-) {
-    match letter {
-        b'q' => query_line(world, text, name, snapshots, deltas, out),
-        b'f' => full_line(world, snapshots, deltas),
-        b'n' => notify_line(world),
-        b'r' => ready_line(world),
-        b'l' => look_line(text, name, snapshots, deltas),
-        _ => write(b" not read"),
-    }
 }
 
 // Whether a line of this letter leaves a state to be written.

@@ -175,16 +175,3 @@ pub fn is_passed(letter: u8) -> bool {
         _ => false,
     }
 }
-
-// Whether a line of this letter is a case, which needs no history.
-pub fn is_case(letter: u8) -> bool {
-    match letter {
-        b'a' => true,
-        b'c' => true,
-        b'd' => true,
-        b'm' => true,
-        b's' => true,
-        b't' => true,
-        _ => false,
-    }
-}
