@@ -13,6 +13,7 @@ use serial::Serial;
 use serial::timing::Timing;
 use serial::timing::clamp;
 
+// An entry on two inputs, by the line's letter, with so much of out lent.
 fn entry(letter: u8, a: &[u8], b: &[u8], serial: Serial, out: &mut [u8], room: usize) {
     let lent = within(room, out.len());
     match letter {
