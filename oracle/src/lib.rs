@@ -16,6 +16,7 @@ pub mod port;
 pub mod rng;
 #[cfg(routinator)]
 pub mod rust;
+pub mod script;
 pub mod shrink;
 
 #[cfg(routinator)]

@@ -175,6 +175,29 @@ impl Universe {
     }
 }
 
+/// Every action on a key of this kind, over four provider lists.
+fn actions(kind: u8) -> Vec<Change> {
+    let lists = [vec![], vec![0, 0, 0, 1], vec![0, 0, 0, 2], vec![0, 0, 0, 1, 0, 0, 0, 2]];
+    if kind < 3 {
+        return vec![Change::Announce(vec![]), Change::Withdraw(vec![])];
+    }
+    let alone = lists.iter().flat_map(|l| [Change::Announce(l.clone()), Change::Withdraw(l.clone())]);
+    let pairs = lists.iter().flat_map(|p| lists.iter().map(|n| Change::Update(p.clone(), n.clone())));
+    alone.chain(pairs).collect()
+}
+
+/// Two deltas on one key, for a key of each kind: every pair of actions.
+pub fn pairs() -> Vec<(Delta, Delta)> {
+    let mut out = vec![];
+    for key in [origin(4, 0, 0, 0, 0), [&[2][..], &[7; 24]].concat(), vec![3, 0, 0, 0, 1]] {
+        let one = |change: &Change| Delta::from([(key.clone(), change.clone())]);
+        for (e, l) in actions(key[0]).iter().flat_map(|e| actions(key[0]).into_iter().map(move |l| (e, l))) {
+            out.push((one(e), one(&l)));
+        }
+    }
+    out
+}
+
 fn origin(family: u8, address: u128, prefix: u8, max: u8, asn: u32) -> Key {
     [&[1, family], &address.to_be_bytes()[..], &[prefix, max], &asn.to_be_bytes()].concat()
 }

@@ -3,8 +3,8 @@
 #![cfg(routinator)]
 use oracle::call::{Call, State};
 use oracle::field::put;
-use oracle::make::Universe;
-use oracle::model::{self, Change, Delta, Refused, Snapshot};
+use oracle::make::{pairs, Universe};
+use oracle::model::{self, Change, Refused, Snapshot};
 use oracle::rng::Rng;
 use oracle::rust::{self, History};
 
@@ -115,35 +115,13 @@ fn k11_timing() {
     assert_eq!(model::timing(0, 0, 0), (1, 1, 600));
 }
 
-fn one(key: &[u8], change: &Change) -> Delta {
-    [(key.to_vec(), change.clone())].into()
-}
-
-/// Every action on a key of this kind, over four provider lists.
-fn actions(kind: u8) -> Vec<Change> {
-    let lists = [vec![], vec![0, 0, 0, 1], vec![0, 0, 0, 2], vec![0, 0, 0, 1, 0, 0, 0, 2]];
-    if kind < 3 {
-        return vec![Change::Announce(vec![]), Change::Withdraw(vec![])];
-    }
-    let alone = lists.iter().flat_map(|l| [Change::Announce(l.clone()), Change::Withdraw(l.clone())]);
-    let pairs = lists.iter().flat_map(|p| lists.iter().map(|n| Change::Update(p.clone(), n.clone())));
-    alone.chain(pairs).collect()
-}
-
 #[test]
 fn every_pair_of_actions_on_one_key() {
-    let mut origin = vec![1, 4];
-    origin.extend([0; 22]);
-    for key in [origin, [&[2][..], &[7; 24]].concat(), vec![3, 0, 0, 0, 1]] {
-        for (e, l) in
-            actions(key[0]).iter().flat_map(|e| actions(key[0]).into_iter().map(move |l| (e.clone(), l)))
-        {
-            let (e, l) = (one(&key, &e), one(&key, &l));
-            let said = rust::merge(&model::delta_bytes(&e), &model::delta_bytes(&l), 6);
-            let want = model::merge(&e, &l);
-            assert_eq!(said.bytes, model::delta_bytes(&want));
-            assert_eq!((said.announced, said.withdrawn), model::counts(&want));
-        }
+    for (e, l) in pairs() {
+        let said = rust::merge(&model::delta_bytes(&e), &model::delta_bytes(&l), 6);
+        let want = model::merge(&e, &l);
+        assert_eq!(said.bytes, model::delta_bytes(&want));
+        assert_eq!((said.announced, said.withdrawn), model::counts(&want));
     }
 }
 

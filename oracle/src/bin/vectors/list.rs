@@ -1,248 +1,350 @@
-//! The list.
+//! The two lists: cases of the check, the three entries and the times, and runs of calls on histories.
 use std::fmt::Write;
 
-use oracle::call::{Answer, Call, Entry, Outcome, State};
+use oracle::call::{Call, Entry, State};
 use oracle::damage::{damage, ill_form};
-use oracle::make::{serial, Universe, World};
-use oracle::model::{self, Form};
+use oracle::make::{pairs, serial, Universe, World};
+use oracle::model::{self, Form, Snapshot};
 use oracle::rng::Rng;
-use oracle::rust;
+use oracle::script::pack;
 
 const SEED: u64 = 7;
 
-const HEAD: &str = "\
-# Answers of the oracle, to be replayed. Written by oracle/src/bin/vectors from seed 7: the inputs are
-# random, the answers are document 01's, and the Rust agrees wherever it has one (but for K6).
-#
-# A line is a letter and fields, each after one space. A field is bytes in hex, two digits a byte, numbers
-# big-endian, or - for no bytes. Inputs are under 2,000 bytes, stores and outputs up to 4,000, lines under
-# 8,000 characters. `answer` is kind (1 byte), number (1), argument (1), serial (4), offset (4), length (4),
-# announced (4), withdrawn (4); `room` is how long an output is lent (4); `out` is what was written to it.
-#
-# D serial(4) old new room answer out           construct
-# M serial(4) earlier later room answer out     merge
-# A snapshot delta room answer out              apply
-# I state snapshots deltas serial(4) answer answer answer
-#                                               update with the empty snapshot, query with no output, and full,
-#                                               each on this history, which may be ill-formed; state is session
-#                                               (8), keep, active, newest, n, snapshot (4 each) and the lengths
-#                                               of deltas (4 each; those left out are 0)
-# H session(8) keep(4) snapshots(4) deltas(4) answer
-#                                               create with stores so long; the lines below are on this history
-# U new answer                                  update
-# Q session(2) serial(4) room session(2) answer out
-#                                               query
-# F session(2) answer held                      full
-# N session(2) serial(4) ready(1)               notify and ready
-# T refresh(4) retry(4) expire(4) refresh(4) retry(4) expire(4)
-#                                               timing: asked, told
-";
+/// How long a line, a store and an output may be.
+const SIZE: usize = 4096;
 
-pub fn list() -> String {
-    let mut list = List { text: HEAD.into() };
+/// How many deltas are kept where a history is filled.
+pub const KEEPS: &[u32] = &[1, 2, 3, 4, 5, 6, 7, 8, 15, 16, 17, 31, 32, 33, 62, 63, 64];
+
+/// What stands above a list: how it was made. The Rust agreed on so many calls, and so many were K6.
+pub fn head(list: &str, agreed: usize, k6: usize) -> String {
+    let count = |word: &str| list.lines().filter(|line| line.starts_with(word)).count();
+    let lines = list.lines().filter(|line| !line.is_empty()).count() - count("#");
+    let cases = lines - count("hold ") - count("state ");
+    let but = if k6 > 0 { format!(";\n# K6, met {k6} times, is the one difference") } else { String::new() };
+    format!(
+        "\
+# {cases} cases; the oracle's answers are the file stdout. Written by oracle/src/bin/vectors from seed {SEED}, never from what
+# the program writes: each answer is that of the model of document 01 (oracle/src/model.rs), and the Rust, compiled
+# unchanged, agrees on all {agreed} calls that it has an answer to{but}.
+# Lines and bytes are written as in crates/examples/data/cases and crates/examples/data/runs.
+"
+    )
+}
+
+/// The lines of one list; each has a name of its own.
+struct List {
+    text: String,
+    part: &'static str,
+    count: usize,
+}
+
+impl List {
+    fn new() -> Self {
+        List { text: String::new(), part: "", count: 0 }
+    }
+
+    fn part(&mut self, part: &'static str, what: &str) {
+        (self.part, self.count) = (part, 0);
+        write!(self.text, "\n# {what}\n").expect("a string takes all");
+    }
+
+    fn line(&mut self, call: &str, words: &[String]) {
+        self.count += 1;
+        let start = self.text.len();
+        write!(self.text, "{call} {}-{}", self.part, self.count).expect("a string takes all");
+        words.iter().for_each(|word| self.text.extend([" ", word]));
+        assert!(self.text.len() - start < SIZE, "a line is too long");
+        self.text.push('\n');
+    }
+}
+
+//------------ Cases ---------------------------------------------------------
+
+pub fn cases() -> String {
+    let mut list = List::new();
     let mut rng = Rng::new(SEED, 0);
-    for i in 0..1300 {
+    list.part("pair", "every pair of actions on one key, merged");
+    for (earlier, later) in pairs() {
+        let [earlier, later] = [earlier, later].map(|d| model::delta_bytes(&d));
+        list.entry(&Call::merge(earlier, later, serial(&mut rng), vec![0; 60]));
+    }
+    list.part("random", "differences, merges and applications, at times damaged, at times short of room");
+    for i in 0..600 {
         let universe = Universe::few(&mut rng, if i % 100 == 99 { 17 } else { 2 + i % 2 });
-        list.pure(&mut rng, &universe, i);
+        list.random(&mut rng, &universe, i);
     }
-    for i in 0..90 {
+    list.part("chain", "A to B, B to C, A to C; the first two merged; that applied to A");
+    for i in 0..40 {
         let universe = Universe::few(&mut rng, 2 + i % 3);
-        list.history(&mut rng, &universe);
+        list.chain(&mut rng, &universe);
     }
+    list.part("check", "snapshots and deltas, most of them damaged");
     for i in 0..150 {
-        let universe = Universe::few(&mut rng, 1 + i % 2);
-        list.ill_formed(&mut rng, &universe);
+        let universe = Universe::few(&mut rng, 2 + i % 3);
+        list.check(&mut rng, &universe, i);
     }
+    list.part("timing", "times at their bounds and one off");
     for i in 0..60 {
         let edges = [0, 1, 600, 7_200, 86_400, 172_800, u32::MAX];
-        let [r, t, e] =
-            [0, 1, 2].map(|k| edges[(i * (k + 1) + k) % 7].wrapping_add(i as u32 % 3).wrapping_sub(1));
-        let told = model::run(&Call::timing(r, t, e)).numbers.map(|x| x as u32);
-        let times = [r, t, e, told[0], told[1], told[2]].map(u32::to_be_bytes);
-        list.line('T', &times.each_ref().map(|t| &t[..]));
+        let near = |k: usize| edges[(i * (k + 1) + k) % 7].wrapping_add(i as u32 % 3).wrapping_sub(1);
+        list.line("timing", &[0, 1, 2].map(|k| near(k).to_string()));
     }
     list.text
 }
 
-struct List {
-    text: String,
-}
-
 impl List {
-    fn line(&mut self, letter: char, fields: &[&[u8]]) {
-        let start = self.text.len();
-        self.text.push(letter);
-        for field in fields {
-            self.text.push(' ');
-            if field.is_empty() {
-                self.text.push('-');
-            }
-            for byte in *field {
-                write!(self.text, "{byte:02x}").expect("a string takes all");
-            }
-        }
-        assert!(self.text.len() - start < 8000, "a line is too long");
-        self.text.push('\n');
+    fn entry(&mut self, call: &Call) {
+        let (name, serial) = match call.entry {
+            Entry::Construct => ("construct", call.numbers[0].to_string()),
+            Entry::Merge => ("merge", call.numbers[0].to_string()),
+            _ => ("apply", "-".into()),
+        };
+        let [first, second, out] = &call.bytes;
+        self.line(name, &[out.len().to_string(), serial, pack(first), pack(second)]);
     }
 
-    /// A difference, a merge or an application, at times damaged, at times short of room.
-    fn pure(&mut self, rng: &mut Rng, universe: &Universe, i: usize) {
+    fn random(&mut self, rng: &mut Rng, universe: &Universe, i: usize) {
         let old = universe.snapshot(rng);
         let new = model::snapshot_bytes(&universe.next(rng, &old));
         let fitting = model::delta_bytes(&universe.fitting(rng, &old));
         let [earlier, later] = [(); 2].map(|_| model::delta_bytes(&universe.delta(rng)));
         let old = model::snapshot_bytes(&old);
-        let (letter, forms, mut call) = match i % 3 {
-            0 => ('D', [Form::Snapshot; 2], Call::construct(old, new, serial(rng), vec![])),
-            1 => ('M', [Form::Delta; 2], Call::merge(earlier, later, serial(rng), vec![])),
-            _ => ('A', [Form::Snapshot, Form::Delta], Call::apply(old, fitting, vec![])),
+        let (forms, mut call) = match i % 3 {
+            0 => ([Form::Snapshot; 2], Call::construct(old, new, serial(rng), vec![])),
+            1 => ([Form::Delta; 2], Call::merge(earlier, later, serial(rng), vec![])),
+            _ => ([Form::Snapshot, Form::Delta], Call::apply(old, fitting, vec![])),
         };
         if rng.one_in(3) {
             let which = rng.below(2);
             let (_, bad) = damage(rng, forms[which], &call.bytes[which]);
-            if bad.len() < 1000 {
+            if bad.len() < 600 {
                 call.bytes[which] = bad;
             }
         }
-        call.bytes[2] = vec![0; 4000];
-        let needed = model::run(&call).answer.length as usize;
-        let room = [needed, needed, needed.saturating_sub(1), needed + 9][rng.below(4)];
-        call.bytes[2].truncate(room);
-        let outcome = agreed(&call);
-        let (serial, room) = (u32::to_be_bytes(call.numbers[0] as u32), u32::to_be_bytes(room as u32));
-        let mut fields: Vec<&[u8]> = if letter == 'A' { vec![] } else { vec![&serial] };
-        let answer = answer(&outcome.answer);
-        fields.extend([&call.bytes[0][..], &call.bytes[1], &room, &answer, written(&outcome)]);
-        self.line(letter, &fields);
+        call.bytes[2] = room(rng, &call);
+        self.entry(&call);
+    }
+
+    fn chain(&mut self, rng: &mut Rng, universe: &Universe) {
+        let a = universe.snapshot(rng);
+        let b = universe.next(rng, &a);
+        let c = universe.next(rng, &b);
+        let difference = |x, y| model::delta_bytes(&model::difference(x, y));
+        let (ab, bc, ac) = (difference(&a, &b), difference(&b, &c), difference(&a, &c));
+        let [a, b, c] = [a, b, c].map(|s| model::snapshot_bytes(&s));
+        let (start, out) = (serial(rng), vec![0; 2000]);
+        let next = start.wrapping_add(1);
+        self.entry(&Call::construct(a.clone(), b.clone(), start, out.clone()));
+        self.entry(&Call::construct(b, c.clone(), next, out.clone()));
+        self.entry(&Call::construct(a.clone(), c, start, out.clone()));
+        self.entry(&Call::merge(ab, bc, next.wrapping_add(1), out.clone()));
+        self.entry(&Call::apply(a, ac, out));
+    }
+
+    fn check(&mut self, rng: &mut Rng, universe: &Universe, i: usize) {
+        let (name, form, bytes) = match i % 2 {
+            0 => ("snapshot", Form::Snapshot, model::snapshot_bytes(&universe.snapshot(rng))),
+            _ => ("delta", Form::Delta, model::delta_bytes(&universe.delta(rng))),
+        };
+        let (_, bad) = damage(rng, form, &bytes);
+        self.line(name, &[pack(if bad.len() < 600 { &bad } else { &bytes })]);
+    }
+}
+
+/// An output: exactly enough for the call, one byte short, or more than enough.
+fn room(rng: &mut Rng, call: &Call) -> Vec<u8> {
+    let mut call = call.clone();
+    call.bytes[2] = vec![0; SIZE];
+    let needed = model::run(&call).answer.length as usize;
+    vec![0; [needed, needed, needed.saturating_sub(1), needed + 9][rng.below(4)]]
+}
+
+//------------ Runs ----------------------------------------------------------
+
+pub fn runs() -> String {
+    let mut list = List::new();
+    let mut rng = Rng::new(SEED, 1);
+    list.part("keep", "histories filled, and two updates more");
+    KEEPS.iter().for_each(|keep| list.keep(*keep));
+    list.part("moved", "serials that cross the wrap, or the middle");
+    for start in [0, 0x7FFF_FFFB, 0x7FFF_FFFD, 0x7FFF_FFFF, 0xFFFF_FFFB, 0xFFFF_FFFD, 0xFFFF_FFFF] {
+        list.moved(start);
+    }
+    list.part(
+        "history",
+        "updates with queries after each; serials from 0, or moved to another start once one delta is held",
+    );
+    for i in 0..44 {
+        let universe = Universe::few(&mut rng, 1 + i % 4);
+        list.history(&mut rng, &universe);
+    }
+    list.part("formed", "histories by construction, most of them not well formed");
+    for i in 0..70 {
+        let universe = Universe::few(&mut rng, 1 + i % 2);
+        list.formed(&mut rng, &universe);
+    }
+    list.text
+}
+
+/// A snapshot of one ASPA.
+fn aspa(provider: u32) -> String {
+    pack(&[&[3, 0, 8, 0, 0, 0, 1], &provider.to_be_bytes()[..]].concat())
+}
+
+fn words<const N: usize>(numbers: [u64; N]) -> Vec<String> {
+    numbers.map(|n| n.to_string()).into()
+}
+
+impl List {
+    fn create(&mut self, session: u64, keep: u32, room: [usize; 2]) -> World {
+        self.line("create", &words([session, keep.into(), room[0] as u64, room[1] as u64]));
+        let [snapshots, deltas] = room.map(|n| vec![0; n]);
+        let made = model::run(&Call::create(session, keep, snapshots.clone(), deltas.clone()));
+        World { state: made.state, snapshots, deltas }
+    }
+
+    fn query(&mut self, state: &State, session: u16, d: u32, room: usize) {
+        self.line("query", &words([session.into(), state.newest.wrapping_sub(d).into(), room as u64]));
+    }
+
+    /// One ASPA whose provider is the serial; the delta store is exactly full.
+    fn keep(&mut self, keep: u32) {
+        let state = State { newest: keep + 2, ..State::ZERO };
+        self.create(u64::from(keep) << 16 | 9, keep, [11, 17 * keep as usize]);
+        self.line("update", &[aspa(0)]);
+        self.line("go", &[(keep + 2).to_string(), aspa(1)]);
+        for d in [1, keep / 2, keep - 1, keep, keep + 1] {
+            self.query(&state, 9, d, 17);
+        }
+        self.line("full", &[]);
+    }
+
+    /// The same, from one delta on with its serial moved.
+    fn moved(&mut self, start: u32) {
+        self.create(9, 5, [11, 90]);
+        self.line("update", &[aspa(0)]);
+        let mut state = State { session: 9, keep: 5, active: 1, snapshot: 11, ..State::ZERO };
+        for n in 1..=5 {
+            self.line("update", &[aspa(n)]);
+            (state.newest, state.n) = (start.wrapping_add(n), n);
+            state.deltas[n as usize - 1] = 17;
+            if n == 1 {
+                self.state(&state);
+            }
+            for d in [0, 1, 2, n - 1, n, n + 1, 0x7FFF_FFFF, 0x8000_0000, 0x8000_0001] {
+                self.query(&state, 9, d, 17);
+            }
+            self.line("notify", &[]);
+        }
     }
 
     fn history(&mut self, rng: &mut Rng, universe: &Universe) {
-        let (session, keep) = (rng.next(), [1, 1, 2, 3, 4, 64, 0, 65][rng.below(8)]);
-        let sizes = if rng.one_in(3) { [60 + rng.below(60), rng.below(200)] } else { [1900, 3900] };
-        let [snapshots, deltas] = sizes.map(|n| vec![0; n]);
-        let lengths = sizes.map(|n| u32::to_be_bytes(n as u32));
-        let made = model::run(&Call::create(session, keep, snapshots.clone(), deltas.clone()));
-        let (session, keep_bytes) = (session.to_be_bytes(), u32::to_be_bytes(keep));
-        self.line('H', &[&session, &keep_bytes, &lengths[0], &lengths[1], &answer(&made.answer)]);
-        if made.answer.kind == 0 {
+        let keep = *rng.pick(&[1, 1, 2, 3, 4, 5, 64, 0, 65]);
+        let (start, moves) = (serial(rng), rng.one_in(2));
+        let mut snapshots = vec![universe.snapshot(rng)];
+        for _ in 0..3 + rng.below(5) {
+            snapshots.push(universe.next(rng, snapshots.last().expect("there is one")));
+        }
+        let room = stores(rng, keep, &snapshots);
+        let session = rng.next();
+        let mut world = self.create(session, keep, room);
+        if world.state.keep == 0 {
             return;
         }
-        let mut world = World { state: made.state, snapshots, deltas };
-        let rust = rust::History::new(keep, 0);
-        for step in 0..1 + rng.below(7) {
-            if step > 0 {
-                let new = model::snapshot_bytes(&universe.next(rng, &world.now()));
-                let new = if rng.one_in(8) { damage(rng, Form::Snapshot, &new).1 } else { new };
-                if new.len() >= 2000 {
-                    continue;
-                }
-                let outcome = model::run(&world.update(new.clone()));
-                self.line('U', &[&new, &answer(&outcome.answer)]);
-                if outcome.answer.kind != 0 {
-                    assert_eq!(rust.update(&new), outcome.answer.kind != 2);
-                }
-                let [_, snapshots, deltas] = outcome.bytes;
-                world = World { state: outcome.state, snapshots, deltas };
+        self.questions(rng, &world);
+        for snapshot in &snapshots {
+            let new = model::snapshot_bytes(snapshot);
+            let new = if rng.one_in(8) { damage(rng, Form::Snapshot, &new).1 } else { new };
+            if new.len() >= 600 {
+                continue;
             }
-            let state = world.state;
-            for d in [0, 1, 2, state.n.wrapping_sub(1), state.n, 1 << 31] {
-                if d > 1 && rng.one_in(2) {
-                    continue;
-                }
-                let asked = state.newest.wrapping_sub(d);
-                let session = if rng.one_in(10) { rng.next() } else { state.session } as u16;
-                let mut call = world.query(session, asked);
-                let room = [0, 20, 300, 3000][rng.below(4)];
-                call.bytes[2] = vec![0; room];
-                let outcome = model::run(&call);
-                agrees(&rust, &call, &outcome);
-                let room = u32::to_be_bytes(room as u32);
-                let told = (outcome.numbers[0] as u16).to_be_bytes();
-                self.line(
-                    'Q',
-                    &[
-                        &session.to_be_bytes(),
-                        &asked.to_be_bytes(),
-                        &room,
-                        &told,
-                        &answer(&outcome.answer),
-                        written(&outcome),
-                    ],
-                );
+            self.line("update", &[pack(&new)]);
+            let first = world.state.n == 0;
+            let outcome = model::run(&world.update(new));
+            let [_, snapshots, deltas] = outcome.bytes;
+            world = World { state: outcome.state, snapshots, deltas };
+            if moves && first && world.state.n == 1 {
+                world.state.newest = start.wrapping_add(1);
+                self.state(&world.state);
             }
+            if rng.one_in(3) {
+                self.line("look", &words(room.map(|n| n as u64)));
+            }
+            self.questions(rng, &world);
         }
-        let full = model::run(&world.full());
-        let (told, held) = (full.numbers[0] as u16, &world.snapshots[..full.answer.length as usize]);
-        self.line('F', &[&told.to_be_bytes(), &answer(&full.answer), held]);
-        let state = world.state;
-        let ready = [u8::from(state.active != 0)];
-        self.line('N', &[&(state.session as u16).to_be_bytes(), &state.newest.to_be_bytes(), &ready]);
+        ["full", "notify", "ready"].iter().for_each(|call| self.line(call, &[]));
     }
 
-    fn ill_formed(&mut self, rng: &mut Rng, universe: &Universe) {
+    fn questions(&mut self, rng: &mut Rng, world: &World) {
+        let state = &world.state;
+        let n = state.n;
+        for d in [0, 1, 2, n.wrapping_sub(1), n, n + 1, 0x7FFF_FFFF, 0x8000_0000, 0x8000_0001] {
+            let k6 = n == 1 && d == 1 << 31;
+            if !k6 && rng.one_in(if d < 3 { 2 } else { 4 }) || d > n + 1 && rng.one_in(2) && !k6 {
+                continue;
+            }
+            let session = if rng.one_in(10) { rng.next() } else { state.session } as u16;
+            let call = world.query(session, state.newest.wrapping_sub(d));
+            let room = room(rng, &call).len();
+            self.query(state, session, d, room);
+        }
+    }
+
+    fn state(&mut self, state: &State) {
+        let State { session, keep, active, newest, n, snapshot, deltas } = state;
+        let used = deltas.iter().rposition(|l| *l != 0).map_or(0, |at| at + 1);
+        let numbers = [keep, active, newest, n, snapshot].into_iter().chain(&deltas[..used]);
+        let numbers = numbers.map(|n| n.to_string());
+        self.line("state", &[session.to_string()].into_iter().chain(numbers).collect::<Vec<_>>());
+    }
+
+    fn formed(&mut self, rng: &mut Rng, universe: &Universe) {
         let mut world = World::new(rng, universe);
         if !rng.one_in(5) {
             ill_form(rng, &mut world);
         }
-        if world.snapshots.len() >= 2000 || world.deltas.len() >= 2000 {
+        let World { state, snapshots, deltas } = &mut world;
+        if snapshots.len() >= 500 || deltas.len() >= 500 {
             return;
         }
-        let State { session, keep, active, newest, n, snapshot, deltas } = &mut world.state;
-        deltas[(*n as usize).clamp(1, 64)..].fill(0);
-        let used = deltas.iter().rposition(|l| *l != 0).map_or(0, |at| at + 1);
-        let mut state = session.to_be_bytes().to_vec();
-        for number in [*keep, *active, *newest, *n, *snapshot].iter().chain(&deltas[..used]) {
-            state.extend(number.to_be_bytes());
+        state.active = state.active.min(1);
+        state.deltas[(state.n as usize).clamp(1, 64)..].fill(0);
+        let rooms = [snapshots.len(), deltas.len()].map(|n| n.to_string());
+        let [snapshot_room, delta_room] = rooms.clone();
+        self.line("hold", &[snapshot_room, pack(snapshots), delta_room, pack(deltas)]);
+        self.state(state);
+        let (session, d) =
+            (if rng.one_in(4) { rng.next() } else { state.session } as u16, rng.below(3) as u32);
+        let new = model::snapshot_bytes(&universe.snapshot(rng));
+        let new = if rng.one_in(3) { damage(rng, Form::Snapshot, &new).1 } else { new };
+        self.query(&world.state, session, d, 100 * rng.below(2));
+        self.line("full", &[]);
+        if new.len() < 600 {
+            self.line("update", &[pack(&new)]);
+            self.line("look", &rooms);
         }
-        let asked = newest.wrapping_sub(rng.below(3) as u32);
-        let query = world.query(world.state.session as u16, asked);
-        let answers = [world.update(vec![]), query, world.full()].map(|c| answer(&model::run(&c).answer));
-        let [update, query, full] = answers.each_ref().map(|a| &a[..]);
-        self.line('I', &[&state, &world.snapshots, &world.deltas, &asked.to_be_bytes(), update, query, full]);
+        ["notify", "ready"].iter().for_each(|call| self.line(call, &[]));
     }
 }
 
-fn answer(a: &Answer) -> Vec<u8> {
-    let mut out = vec![a.kind as u8, a.number as u8, a.argument as u8];
-    for number in [u64::from(a.serial), a.offset, a.length, a.announced, a.withdrawn] {
-        out.extend(u32::try_from(number).expect("small").to_be_bytes());
+/// Stores for a run of updates: more than enough, exactly enough, or one byte short.
+fn stores(rng: &mut Rng, keep: u32, snapshots: &[Snapshot]) -> [usize; 2] {
+    let state = State { keep, ..State::ZERO };
+    let mut world = World { state, snapshots: vec![0; SIZE], deltas: vec![0; SIZE] };
+    let mut most = [0, 0];
+    for snapshot in snapshots {
+        let outcome = model::run(&world.update(model::snapshot_bytes(snapshot)));
+        let [_, snapshots, deltas] = outcome.bytes;
+        world = World { state: outcome.state, snapshots, deltas };
+        let held = world.state.deltas.iter().sum::<u32>();
+        most = [most[0].max(world.state.snapshot as usize), most[1].max(held as usize)];
     }
-    out
-}
-
-fn written(outcome: &Outcome) -> &[u8] {
-    &outcome.bytes[2][..outcome.answer.length as usize]
-}
-
-/// What 01 says of a call, once the Rust has said the same.
-fn agreed(call: &Call) -> Outcome {
-    let outcome = model::run(call);
-    let serial = call.numbers[0] as u32;
-    let said = match (call.entry, outcome.answer.kind) {
-        (Entry::Construct, 1 | 2) => rust::construct(&call.bytes[0], &call.bytes[1], serial),
-        (Entry::Merge, 1) => Some(rust::merge(&call.bytes[0], &call.bytes[1], serial)),
-        _ => return outcome,
-    };
-    assert_eq!(said, (outcome.answer.kind == 1).then(|| served(&outcome)));
-    outcome
-}
-
-/// Holds a served or unserved query to the Rust's, but for K6.
-fn agrees(history: &rust::History, call: &Call, outcome: &Outcome) {
-    let serial = call.numbers[1] as u32;
-    let k6 = call.state.n == 1 && call.state.newest.wrapping_sub(serial) == 1 << 31;
-    match outcome.answer.number {
-        0 => assert_eq!(history.since(serial), Some(served(outcome))),
-        6 if !k6 => assert_eq!(history.since(serial), None),
-        _ => {}
-    }
-}
-
-fn served(outcome: &Outcome) -> rust::Served {
-    rust::Served {
-        serial: outcome.answer.serial,
-        announced: outcome.answer.announced,
-        withdrawn: outcome.answer.withdrawn,
-        bytes: written(outcome).to_vec(),
+    let short = |n: usize| n.saturating_sub(1);
+    match rng.below(5) {
+        0 | 1 => most,
+        2 => [short(most[0]), most[1]],
+        3 => [most[0], short(most[1])],
+        _ => most.map(|n| n + 20),
     }
 }

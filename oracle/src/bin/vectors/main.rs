@@ -1,17 +1,36 @@
-//! Writes a fixed list of the oracle's answers, for a program to replay where no Rust is at hand.
+//! Writes a fixed list of calls with the oracle's answers, for a program to replay where no Rust is at hand.
 //!
-//! usage: vectors >FILE
+//! usage: vectors DIR, which writes DIR/data/cases, DIR/data/runs and DIR/stdout
 //!
-//! The head of the file says what stands in it. Every answer is document 01's; each difference, merge and
-//! history is put to the Rust as well, and nothing is written unless it agrees.
+//! The head of each list says how it was made. Every answer is that of the model of document 01; each that
+//! the Rust has an answer to is put to the Rust as well, and nothing is written unless the two agree.
 use std::process::ExitCode;
 
+#[cfg(routinator)]
+mod judge;
 #[cfg(routinator)]
 mod list;
 
 #[cfg(routinator)]
 fn main() -> ExitCode {
-    print!("{}", list::list());
+    use oracle::script::play;
+    use std::{fs, path::PathBuf};
+
+    let Some(folder) = std::env::args_os().nth(1).map(PathBuf::from) else {
+        eprintln!("usage: vectors DIR");
+        return ExitCode::from(2);
+    };
+    let (mut judge, mut answers) = (judge::Judge::default(), String::new());
+    let lists = [list::cases(), list::runs()].map(|list| {
+        let (agreed, k6) = (judge.agreed, judge.k6);
+        answers += &play(&list, |call| judge.run(call));
+        list::head(&list, judge.agreed - agreed, judge.k6 - k6) + &list
+    });
+    judge.met_all();
+    fs::create_dir_all(folder.join("data")).expect("the folder can be made");
+    for (name, text) in [("data/cases", &lists[0]), ("data/runs", &lists[1]), ("stdout", &answers)] {
+        fs::write(folder.join(name), text).expect("the file can be written");
+    }
     ExitCode::SUCCESS
 }
 
