@@ -1,0 +1,2 @@
+// The listing of a delta as text, and all that the program `snapdiff` writes.
+mod text;
