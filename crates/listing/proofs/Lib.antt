@@ -1,3 +1,4 @@
 pub mod Decimals
 pub mod Putting
+pub mod Lining
 pub mod Examples

@@ -1,2 +1,3 @@
 // The listing of a delta as text, and all that the program `snapdiff` writes.
+mod line;
 mod text;
