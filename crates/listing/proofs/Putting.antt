@@ -10,7 +10,9 @@ use Rattle.payload.specs.Content.{Bytes}
 use Rattle.delta.specs.declared.place.Part.{Part}
 use Rattle.delta.specs.Place.{Lies, partIn}
 use Rattle.delta.proofs.Sinking.{sets-append}
+use Rattle.listing.specs.Text.{decimal}
 use Rattle.listing.specs.Put.{Puts}
+use Rattle.listing.specs.Listing.{named}
 
 -- one text behind another is one text
 pub puts-append : (o p q a b : Bytes) (i j k : ℕ) → Puts o i a p j → Puts p j b q k → Puts o i (a ++ b) q k
@@ -18,6 +20,10 @@ puts-append o p q a b i j k f g = record {
   laid = g .laid ∙ rw (f .laid, f .end) (sym (sets-append a b o i));
   end = omega (arith, g .end, f .end, length-append a b);
 }
+
+pub named-put : (w o p q : Bytes) (n i j k : ℕ) → Puts o i w p j → Puts p j (decimal n) q k → Puts o i (named w n) q k
+unfolding named
+named-put w o p q n i j k f g = puts-append o p q w (decimal n) i j k f g
 
 -- the whole of a text
 pub text-put : (text o p : Bytes) (i : ℕ) → p ≡ sets o i (partIn text (record { from = 0; to = length text })) → Puts o i text p (i + length text)

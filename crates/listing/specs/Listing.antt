@@ -33,11 +33,11 @@ linesOf [] = []
 linesOf (c ∷ cs) = lineOf c ++ linesOf cs
 
 -- a word and a number
-abbrev pub named : Bytes → ℕ → Bytes
+unfoldable pub named : Bytes → ℕ → Bytes
 named word n = word ++ decimal n
 
 -- a line of three such
-abbrev pub threeOf : Bytes → ℕ → Bytes → ℕ → Bytes → ℕ → Bytes
+unfoldable pub threeOf : Bytes → ℕ → Bytes → ℕ → Bytes → ℕ → Bytes
 threeOf a x b y c z = named a x ++ named b y ++ named c z ++ ascii "\n"
 
 -- the head line

@@ -35,3 +35,14 @@ pub fn put_named(word: &[u8], n: u64, out: &mut [u8], i: usize) -> usize
     let j = put_text(word, out, i);
     put_number(n, out, j)
 }
+
+// A line of three such, at the start of out.
+pub fn put_three(a: &[u8], x: u64, b: &[u8], y: u64, c: &[u8], z: u64, out: &mut [u8]) -> usize
+    requires { ⌜ (length (now a) ≤ 16) × ((length (now b) ≤ 16) × (length (now c) ≤ 16)) ⌝ }
+    ensures { λ r. ⌜ Puts (now (out .entry)) 0 (threeOf (now (a .entry)) x (now (b .entry)) y (now (c .entry)) z) (now (out .exit)) r ⌝ }
+{
+    let i = put_named(a, x, out, 0);
+    let j = put_named(b, y, out, i);
+    let k = put_named(c, z, out, j);
+    put_text(b"\n", out, k)
+}
