@@ -2,4 +2,5 @@ pub mod Decimals
 pub mod Putting
 pub mod Lining
 pub mod Reporting
+pub mod Answering
 pub mod Examples

@@ -20,7 +20,7 @@ use Rattle.delta.specs.Refusal.{numberOf, argumentOf, offsetOf}
 use Rattle.delta.specs.Answer.{countsOf, outAfter}
 use Rattle.listing.specs.declared.report.Report.{Report}
 use Rattle.listing.specs.declared.report.Report.the-variants.{Changed, Same, Refused, Absent}
-use Rattle.listing.specs.declared.report.Listed.the-variants as listed
+use Rattle.listing.specs.declared.listing.Listed.the-variants as listed
 use Rattle.listing.specs.Text.{ascii, decimalF, decimal}
 use Rattle.listing.specs.Put.{Puts}
 use Rattle.listing.specs.Listing.{named, threeOf, headOf, linesOf, listingOf}

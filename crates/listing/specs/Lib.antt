@@ -2,3 +2,4 @@ pub mod Text
 pub mod Put
 pub mod Listing
 pub mod Report
+pub mod Answer

@@ -13,8 +13,8 @@ use Rattle.delta.specs.Refusal.{numberOf, argumentOf, offsetOf}
 use Rattle.delta.specs.Answer.{countsOf}
 use Rattle.listing.specs.declared.report.Report.{Report}
 use Rattle.listing.specs.declared.report.Report.the-variants.{Changed, Same, Refused, Absent}
-use Rattle.listing.specs.declared.report.Listed.{Listed}
-use Rattle.listing.specs.declared.report.Listed.the-variants as listed
+use Rattle.listing.specs.declared.listing.Listed.{Listed}
+use Rattle.listing.specs.declared.listing.Listed.the-variants as listed
 use Rattle.listing.specs.Text.{ascii}
 use Rattle.listing.specs.Listing.{named, threeOf, listingOf}
 

@@ -1,5 +1,6 @@
 // What is written: a listing, or one line.
 use crate::line::put_lines;
+use crate::listing::Listed;
 use crate::text::put_named;
 use crate::text::put_text;
 use crate::text::put_three;
@@ -23,12 +24,6 @@ pub enum Report {
     Refused(Refusal),
     // This file is absent.
     Absent(u8),
-}
-
-pub enum Listed {
-    // The length of the text that was written.
-    Text(usize),
-    Refused(Refusal),
 }
 
 // The listing of a delta, which lies at the start of `delta`.
