@@ -14,7 +14,6 @@ use Rattle.order.specs.Comparison.{bytes}
 use Rattle.change.specs.Merge.{merge}
 use Rattle.change.proofs.Whole.{merge-earlier}
 use Rattle.serial.specs.declared.Serial.{Serial}
-use Rattle.serial.specs.Serial.{nextOf}
 use Rattle.field.specs.declared.tag.Form.the-variants.{Snapshot, Delta}
 use Rattle.field.specs.declared.verdict.Verdict.the-variants.{Fine}
 use Rattle.field.specs.Head.{front}
@@ -166,13 +165,29 @@ pub ruleset filing = (absent-first, absent-second, absent-other, long-both, long
 -- ---- diff_text
 
 -- what `construct` wrote, where it answers a delta
-record Made (old new d : Bytes) (c : Counts) : Type 0 where
-  admitted : admitOf Snapshot old Snapshot new ≡ Yes
-  counts : c ≡ countsOf (differenceOf old new)
-  fits : length (differenceOf old new) ≤ length d
+pub record Made (old new : Bytes) (room : ℕ) (c : Counts) : Type 0 where
+  pub admitted : admitOf Snapshot old Snapshot new ≡ Yes
+  pub counts : c ≡ countsOf (differenceOf old new)
+  pub fits : length (differenceOf old new) ≤ room
 
 clash : {X : Type 0} → _≡_ {A = ℕ} 0 1 → X
 clash z = absurd (omega arith)
+
+module _ (old new : Bytes) (room : ℕ) where
+  made-at : (x : Admitted) → admitOf Snapshot old Snapshot new ≡ x → (t w : Bool) → eqb (length (differenceOf old new)) 0 ≡ t →
+      leb (length (differenceOf old new)) room ≡ w → (s : Serial) (c : Counts) →
+      constructAt x (differenceOf old new) (record { 0 = 0 }) room ≡ constructed.Delta s c → Made old new room c
+  made-at (No r) a t w p l s c e = clash (cc)
+  made-at Yes a true w p l s c e = let q = rw p at e in clash (cc)
+  made-at Yes a false false p l s c e = let q = rw (p, l) at e in clash (cc)
+  made-at Yes a false true p l s c e =
+      let q = rw (p, l) at e in
+      record { admitted = a; counts = cc; fits = leb-true (length (differenceOf old new)) room l }
+
+  pub made : (s : Serial) (c : Counts) → constructOf old new (record { 0 = 0 }) room ≡ constructed.Delta s c → Made old new room c
+  unfolding constructOf
+  made s c e =
+      made-at (admitOf Snapshot old Snapshot new) refl (eqb (length (differenceOf old new)) 0) (leb (length (differenceOf old new)) room) refl refl s c e
 
 module _ (old new d : Bytes) where
   abbrev D : Bytes
@@ -181,26 +196,13 @@ module _ (old new d : Bytes) where
   abbrev answer : Constructed
   answer = constructOf old new (record { 0 = 0 }) (length d)
 
-  made-at : (x : Admitted) → admitOf Snapshot old Snapshot new ≡ x → (t w : Bool) → eqb (length D) 0 ≡ t → leb (length D) (length d) ≡ w →
-      (s : Serial) (c : Counts) → constructAt x D (record { 0 = 0 }) (length d) ≡ constructed.Delta s c → Made old new d c
-  made-at (No r) a t w p l s c e = clash (cc)
-  made-at Yes a true w p l s c e = let q = rw p at e in clash (cc)
-  made-at Yes a false false p l s c e = let q = rw (p, l) at e in clash (cc)
-  made-at Yes a false true p l s c e =
-      let q = rw (p, l) at e in
-      record { admitted = a; counts = cc; fits = leb-true (length D) (length d) l }
-
-  made : (s : Serial) (c : Counts) → answer ≡ constructed.Delta s c → Made old new d c
-  unfolding constructOf
-  made s c e = made-at (admitOf Snapshot old Snapshot new) refl (eqb (length D) 0) (leb (length D) (length d)) refl refl s c e
-
   module _ (s : Serial) (c : Counts) (e : answer ≡ constructed.Delta s c) where
     out-is : constructOut old new d ≡ D ++ drop (length D) d
     unfolding constructOut
-    out-is = let m = made s c e in rw (m .admitted, le-leb (length D) (length d) (m .fits))
+    out-is = let m = made old new (length d) s c e in rw (m .admitted, le-leb (length D) (length d) (m .fits))
 
     part-is : take (c .len) (constructOut old new d) ≡ D
-    part-is = let m = made s c e in rw (m .counts, out-is, take-append-seam D (drop (length D) d))
+    part-is = let m = made old new (length d) s c e in rw (m .counts, out-is, take-append-seam D (drop (length D) d))
 
   -- the text says the difference
   written-both : (x : Constructed) → answer ≡ x → writtenOf (reportAt x) (take (lenOf (reportAt x)) (constructOut old new d)) ≡ writtenOf (reportAt x) D
@@ -230,7 +232,7 @@ module _ (old new d : Bytes) where
     told-both constructed.NoChange e = record { is = tt }
     told-both (constructed.Refused r) e = record { is = tt }
     told-both (constructed.Delta s c) e =
-        let m = made s c e in
+        let m = made old new (length d) s c e in
         record {
           is = record {
             within = rw (m .counts, out-is s c e) (omega (arith, length-append D (drop (length D) d)));

@@ -89,7 +89,7 @@ pub ruleset hexing = (hexing-start, hexing-end, hexing-room, hexing-long, hexing
 
 -- ---- one line
 
-line-length : (c : Cell) → length (lineOf c) ≡ 5 + 3 * length (c .body)
+pub line-length : (c : Cell) → length (lineOf c) ≡ 5 + 3 * length (c .body)
 unfolding lineOf
 line-length c = omega (arith, hexes-length (c .body), length-append (hexes (c .body)) (10 ∷ []))
 

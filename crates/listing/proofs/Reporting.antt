@@ -38,12 +38,12 @@ decimal-at-most (suc k) n = go (ltb n 10) (decimal-at-most k (n / 10))
     go true h = omega arith
     go false h = omega (arith, length-append (decimalF k (n / 10)) ((48 + n % 10) ∷ []))
 
-named-short : (w : Bytes) (n : ℕ) → length w ≤ 16 → length (named w n) ≤ 36
+pub named-short : (w : Bytes) (n : ℕ) → length w ≤ 16 → length (named w n) ≤ 36
 unfolding named decimal
 named-short w n h = omega (arith, length-append w (decimalF 20 n), decimal-at-most 20 n)
 
 module _ (a b c : Bytes) (x y z : ℕ) (f : length a ≤ 16) (g : length b ≤ 16) (h : length c ≤ 16) where
-  three-short : length (threeOf a x b y c z) ≤ 109
+  pub three-short : length (threeOf a x b y c z) ≤ 109
   unfolding threeOf
   three-short =
       omega (
