@@ -1,8 +1,8 @@
 -- Laws of the two entries.
-use Prim.Native.Nat.{ℕ, _+_, _≤_, _<_}
+use Prim.Native.Nat.{ℕ, _+_, _≤_}
 use mathlib.Core.Path.{_≡_, refl, sym, ap, _∙_}
 use mathlib.Core.List.{[], _++_}
-use mathlib.Core.Bool.{Bool, true, false, cond}
+use mathlib.Core.Bool.{Bool, true, false}
 use native.Mathlib.Omega.{arith}
 use mir.Syntax.{w8}
 use mir.Val.{Fits}
@@ -11,7 +11,6 @@ use lib.Dec.{leb, eqb}
 use lib.ListN.{length, getD, take, drop, length-append}
 use lib.Seq.{take-length, take-append-seam}
 use Rattle.order.specs.Comparison.{bytes}
-use Rattle.change.specs.Merge.{merge}
 use Rattle.change.proofs.Whole.{merge-earlier}
 use Rattle.serial.specs.declared.Serial.{Serial}
 use Rattle.field.specs.declared.tag.Form.the-variants.{Snapshot, Delta}
@@ -19,8 +18,7 @@ use Rattle.field.specs.declared.verdict.Verdict.the-variants.{Fine}
 use Rattle.field.specs.Head.{front}
 use Rattle.field.specs.Verdict.{judge, verdictF, verdict}
 use Rattle.payload.specs.Content.{Bytes}
-use Rattle.payload.specs.Limit.{limit}
-use Rattle.payload.specs.Payload.{encode, changes}
+use Rattle.payload.specs.Payload.{changes}
 use Rattle.payload.proofs.Faithful.{faithful, entries-end}
 use Rattle.delta.specs.declared.refusal.Refusal.{Refusal}
 use Rattle.delta.specs.declared.refusal.Refusal.the-variants as refusal
@@ -30,7 +28,7 @@ use Rattle.delta.specs.declared.sink.Counts.{Counts}
 use Rattle.delta.specs.declared.reading.Reading.the-variants.{Changes}
 use Rattle.delta.specs.declared.construct.Constructed.{Constructed}
 use Rattle.delta.specs.declared.construct.Constructed.the-variants as constructed
-use Rattle.delta.specs.Admission.{Inputs, andThen, limitOf, judgedOf, admitOneOf, admitOf}
+use Rattle.delta.specs.Admission.{Inputs, andThen, judgedOf, admitOneOf, admitOf}
 use Rattle.delta.specs.Write.{plusAll, zero}
 use Rattle.delta.specs.Walk.{Runs, mergedAs}
 use Rattle.delta.specs.Answer.{differenceOf, countsOf, outAfter, constructAt, constructOf, constructOut}
@@ -43,7 +41,7 @@ use Rattle.listing.specs.declared.report.Report.the-variants as report
 use Rattle.listing.specs.declared.diff.File.{File}
 use Rattle.listing.specs.declared.diff.File.the-variants.{Absent, TooLong, Read}
 use Rattle.listing.specs.Listing.{listingOf}
-use Rattle.listing.specs.Report.{writtenOf, listedOf, lenOf, Counted, Told}
+use Rattle.listing.specs.Report.{writtenOf, listedOf, lenOf, Told}
 use Rattle.listing.specs.Answer.{listOf, listOut, reportAt, reportOf, textOf, deltaAfter, diffOf, diffOut}
 
 -- each element is a byte, as a lent slice has it

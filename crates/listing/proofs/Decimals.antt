@@ -1,13 +1,12 @@
 -- The decimal digits of a number are those that the kit's `io::decimal` makes.
-use Prim.Native.Nat.{ℕ, zero, suc, _+_, _-_, _*_, _/_, _%_, _^_, _<_, _≤_}
-use mathlib.Core.Path.{_≡_, refl, sym, ap, ap₂, _∙_}
-use mathlib.Core.List.{[], _∷_, _++_}
-use mathlib.Core.Bool.{Bool, true, false, cond}
+use Prim.Native.Nat.{ℕ, zero, suc, _+_, _-_, _/_, _%_, _^_, _<_, _≤_}
+use mathlib.Core.Path.{_≡_, refl}
+use mathlib.Core.Bool.{Bool, true, false}
 use native.Mathlib.Omega.{arith}
 use native.Mathlib.Nat.{one-le-pow, pow-le-pow-right, pow-succ', pow-zero}
 use borrow.Author.Tests.{lt-ltb, le-ltb, leb-true, leb-false}
-use lib.Dec.{ltb, leb}
-use lib.ListN.{length, take, length-append, length-take}
+use lib.Dec.{leb}
+use lib.ListN.{length, take}
 use Rattle.io.specs.Digits.{glyph, digits}
 use Rattle.payload.specs.Content.{Bytes}
 use Rattle.listing.specs.Put.{Puts}

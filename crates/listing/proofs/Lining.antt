@@ -1,24 +1,23 @@
 -- Laws of the lines of a listing.
-use Prim.Native.Nat.{ℕ, suc, _+_, _-_, _*_, _/_, _%_, _^_, _<_, _≤_}
-use mathlib.Core.Path.{_≡_, refl, sym, ap, _∙_}
-use mathlib.Core.List.{[], _∷_, _++_, append-assoc}
-use mathlib.Core.Bool.{cond}
+use Prim.Native.Nat.{ℕ, _+_, _-_, _*_, _/_, _%_, _^_, _<_, _≤_}
+use mathlib.Core.Path.{_≡_, refl}
+use mathlib.Core.List.{[], _∷_, _++_}
 use native.Mathlib.Numerals.{add-one}
 use native.Mathlib.Omega.{arith}
 use borrow.Author.Tests.{eq-eqb, ne-eqb, lt-ltb, le-ltb}
 use lib.ListN.{length, getD, drop, length-append, drop-of-length-le}
-use lib.Seq.{sets, drop-cons}
+use lib.Seq.{drop-cons}
 use Rattle.field.specs.declared.head.Field.{Field}
 use Rattle.field.specs.declared.head.Field.the-variants.{End, Cut, Whole}
 use Rattle.field.specs.Places.{part, fieldAt}
 use Rattle.field.specs.Cells.{Cell, cells}
-use Rattle.field.proofs.Fields.{whole-at, cut-at, body-ordered, body-within, field-long, field-less}
+use Rattle.field.proofs.Fields.{whole-at, cut-at, body-ordered, body-within, field-less}
 use Rattle.field.proofs.Run.{cells-at-cut}
 use Rattle.field.proofs.Walk.{good-end, good-cells}
 use Rattle.payload.specs.Content.{Bytes}
 use Rattle.delta.proofs.Sinking.{part-length}
 use Rattle.listing.specs.Put.{Puts}
-use Rattle.listing.specs.Text.{ascii, hexDigit}
+use Rattle.listing.specs.Text.{hexDigit}
 use Rattle.listing.specs.Listing.{mark, hex, hexes, lineOf, linesOf}
 use Rattle.listing.proofs.Putting.{puts-append, Left, left-start, left-end, left-some}
 

@@ -1,14 +1,13 @@
 -- Laws of putting text into a slice.
-use Prim.Native.Nat.{ℕ, zero, suc, _+_, _-_, _*_, _/_, _%_, _^_, _<_, _≤_}
+use Prim.Native.Nat.{ℕ, _+_, _-_}
 use mathlib.Core.Path.{_≡_, refl, sym, ap, _∙_}
-use mathlib.Core.List.{[], _∷_, _++_, append-assoc}
+use mathlib.Core.List.{[], _++_}
 use native.Mathlib.Omega.{arith}
 use native.Mathlib.Nat.{sub-zero}
-use lib.ListN.{length, take, drop, length-append}
+use lib.ListN.{length, length-append}
 use lib.Seq.{sets, length-sets, take-length}
 use Rattle.payload.specs.Content.{Bytes}
-use Rattle.delta.specs.declared.place.Part.{Part}
-use Rattle.delta.specs.Place.{Lies, partIn}
+use Rattle.delta.specs.Place.{partIn}
 use Rattle.delta.proofs.Sinking.{sets-append}
 use Rattle.listing.specs.Text.{decimal}
 use Rattle.listing.specs.Put.{Puts}

@@ -1,10 +1,10 @@
 -- How long a text can be, and so what room always suffices.
 use Prim.Native.Nat.{ℕ, zero, suc, _+_, _*_, _≤_}
-use mathlib.Core.Path.{_≡_, refl, _∙_}
-use mathlib.Core.List.{[], _∷_, _++_}
+use mathlib.Core.Path.{_≡_, refl}
+use mathlib.Core.List.{[], _∷_}
 use native.Mathlib.Omega.{arith}
 use borrow.Author.Tests.{le-leb}
-use lib.ListN.{length, drop, length-append}
+use lib.ListN.{length, length-append}
 use Rattle.serial.specs.declared.Serial.{Serial}
 use Rattle.field.specs.Head.{Front, end, cut, whole, front}
 use Rattle.field.specs.Cells.{Cell, cellsF, cells}
@@ -22,7 +22,7 @@ use Rattle.listing.specs.declared.diff.File.the-variants.{Absent, TooLon
 use Rattle.listing.specs.Text.{ascii}
 use Rattle.listing.specs.Listing.{named, headOf, lineOf, linesOf, listingOf}
 use Rattle.listing.specs.Report.{refusedLine, absentLine, writtenOf}
-use Rattle.listing.specs.Answer.{reportAt, reportOf, textOf, diffOf}
+use Rattle.listing.specs.Answer.{reportAt, textOf, diffOf}
 use Rattle.listing.proofs.Lining.{line-length}
 use Rattle.listing.proofs.Reporting.{named-short, three-short}
 use Rattle.listing.proofs.Answering.{made}

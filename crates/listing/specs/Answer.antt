@@ -1,6 +1,5 @@
 -- What the two entries answer, and what they leave in what was lent.
 use Prim.Native.Nat.{ℕ}
-use lib.ListN.{length}
 use Rattle.serial.specs.declared.Serial.{Serial}
 use Rattle.field.specs.declared.tag.Form.the-variants.{Delta}
 use Rattle.payload.specs.Content.{Bytes}

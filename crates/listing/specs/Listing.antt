@@ -1,7 +1,6 @@
 -- The listing of a delta: a head line, then a line for each field.
 use Prim.Native.Nat.{ℕ, _/_, _%_}
 use Prim.Native.Char.{code}
-use Prim.Native.String.{String}
 use mathlib.Core.List.{List, [], _∷_, _++_}
 use mathlib.Core.Bool.{cond}
 use Rattle.serial.specs.declared.Serial.{Serial}
