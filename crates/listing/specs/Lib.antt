@@ -1,0 +1,5 @@
+pub mod Text
+pub mod Put
+pub mod Listing
+pub mod Report
+pub mod Answer
