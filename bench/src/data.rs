@@ -9,6 +9,8 @@ pub enum Shape {
     Mixed,
     /// ASPAs with one provider each, the shortest items that carry something.
     Aspas,
+    /// IPv4 origins, of which one in 65 comes at each step and stays: nothing cancels when deltas are merged.
+    Growing,
 }
 
 #[derive(Clone, Copy)]
@@ -30,7 +32,7 @@ impl Data {
     pub fn snapshot(self, step: u32) -> Vec<u8> {
         let Data { shape, items: n, every } = self;
         let (v4, v6, keys, aspas) = match shape {
-            Shape::Origins => (n, 0, 0, 0),
+            Shape::Origins | Shape::Growing => (n, 0, 0, 0),
             Shape::Mixed => (n / 5 * 2, n / 5 * 2, n / 25, n / 25 * 4),
             Shape::Aspas => (0, 0, 0, n),
         };
@@ -38,7 +40,8 @@ impl Data {
         // as many more as are left out
         let one_more = |n: u32| 0..n + n / (every - 1);
         let mut out = Vec::new();
-        for i in one_more(v4).filter(|&i| !changed(i)) {
+        let growing = matches!(shape, Shape::Growing);
+        for i in one_more(v4).filter(|&i| if growing { i % 65 <= step } else { !changed(i) }) {
             let mut address = [0; 16];
             address[..4].copy_from_slice(&(i << 8).to_be_bytes());
             put(&mut out, 1, &[&[4], &address, &[24, 24], &64_496u32.to_be_bytes()]);

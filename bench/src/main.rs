@@ -333,23 +333,27 @@ fn main() {
         }
         out.push('\n');
     }
+    out +=
+        "Times of a query, in units of the library's at d = 1, and the library's in units of the Rust's.\n\n";
     let distances = [1, 2, 4, 8, 16, 32, 63];
-    let name = "query, 10,000 IPv4 origins, 1,000 changes";
-    let data = Data { shape: Shape::Origins, items: 10_000, every: 21 };
-    let measured = queries(data, rounds * 5, distances);
     let head: String = distances.iter().map(|d| format!(" d = {d} |")).collect();
-    write!(
-        out,
-        "Time in units of the time at d = 1.\n\n| {name} |{head}\n|---|---|---|---|---|---|---|---|\n"
-    )
-    .expect("a string takes all");
-    for (i, contender) in CONTENDERS.iter().enumerate().take(2) {
-        let cells =
-            [0, 1, 2, 3, 4, 5, 6].map(|k: usize| format!(" {} |", ratio(measured[k][i], measured[0][i])));
-        writeln!(out, "| {contender} |{}", cells.concat()).expect("a string takes all");
-        let points =
-            (0..7).filter_map(|k| Some((f64::from(distances[k]), measured[k][i]? / measured[0][0]?)));
-        lines.push((name, *contender, points.collect()));
+    for (name, data) in [
+        ("query, most changes cancel", Data { shape: Shape::Origins, items: 10_000, every: 21 }),
+        ("query, no change cancels", Data::new(Shape::Growing, 65_000)),
+    ] {
+        let measured = queries(data, rounds * 5, distances);
+        write!(out, "| {name} |{head}\n|---|---|---|---|---|---|---|---|\n").expect("a string takes all");
+        let line = |what: &str, cell: &dyn Fn(usize) -> String| {
+            format!("| {what} |{}\n", (0..7).map(|k| format!(" {} |", cell(k))).collect::<String>())
+        };
+        for (i, contender) in CONTENDERS.iter().enumerate().take(2) {
+            out += &line(contender, &|k| ratio(measured[k][i], measured[0][0]));
+            let points =
+                (0..7).filter_map(|k| Some((f64::from(distances[k]), measured[k][i]? / measured[0][0]?)));
+            lines.push((name, *contender, points.collect()));
+        }
+        out += &line("library : Rust", &|k| ratio(measured[k][0], measured[k][1]));
+        out.push('\n');
     }
 
     println!("{out}");
