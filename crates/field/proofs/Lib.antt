@@ -1,5 +1,6 @@
 pub mod Comparing
 pub mod Numbers
+pub mod Words
 pub mod Prefixes
 pub mod Bodies
 pub mod Ascent

@@ -5,7 +5,7 @@ use mathlib.Core.List.{List}
 use native.Mathlib.Omega.{arith}
 use lib.ListN.{length, getD, List·getD-eq-default}
 use Rattle.serial.specs.declared.Asn.{Asn}
-use Rattle.field.specs.Number.{two, four, twoAt, asnAt}
+use Rattle.field.specs.Number.{two, twoAt, fourAt, asnAt}
 
 -- two bytes that were read one by one
 pub two-read : (s : List ℕ) (i a b : ℕ) → a ≡ getD s i 0 → b ≡ getD s (i + 1) 0 → two a b ≡ twoAt s i
@@ -20,8 +20,7 @@ pub two-half : (s : List ℕ) (i a : ℕ) → a ≡ getD s i 0 → length s - i 
 two-half s i a p h = rw (List·getD-eq-default s 0 {n = i + 1} (omega arith)) (omega (arith, p))
 
 -- four of them
-pub asn-read : (s : List ℕ) (i a b c d : ℕ) → a ≡ getD s i 0 → b ≡ getD s (i + 1) 0 → c ≡ getD s (i + 2) 0 → d ≡ getD s (i + 3) 0
-    → _≡_ {A = Asn} (record { 0 = four a b c d }) (asnAt s i)
-asn-read s i a b c d p q r t = λ j. record { 0 = four (p j) (q j) (r j) (t j) }
+pub asn-read : (s : List ℕ) (i n : ℕ) → n ≡ fourAt s i → _≡_ {A = Asn} (record { 0 = n }) (asnAt s i)
+asn-read s i n e = λ j. record { 0 = e j }
 
 pub ruleset reading = (two-read, two-none, two-half, asn-read)

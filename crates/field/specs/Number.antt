@@ -20,6 +20,10 @@ twoAt s i = two (getD s i 0) (getD s (i + 1) 0)
 abbrev pub fourAt : List ℕ → ℕ → ℕ
 fourAt s i = four (getD s i 0) (getD s (i + 1) 0) (getD s (i + 2) 0) (getD s (i + 3) 0)
 
+-- the number of the eight bytes at i
+unfoldable pub wordAt : List ℕ → ℕ → ℕ
+wordAt s i = fourAt s i * 4_294_967_296 + fourAt s (i + 4)
+
 -- the AS number at i
 abbrev pub asnAt : List ℕ → ℕ → Asn
 asnAt s i = record { 0 = fourAt s i }
