@@ -1,6 +1,7 @@
 pub mod Comparing
 pub mod Numbers
 pub mod Words
+pub mod Masks
 pub mod Prefixes
 pub mod Bodies
 pub mod Ascent
