@@ -11,6 +11,7 @@ pub mod Fronts
 pub mod Fields
 pub mod Keys
 pub mod Judging
+pub mod Passing
 pub mod Run
 pub mod Encode
 pub mod Walk
