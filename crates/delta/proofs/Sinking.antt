@@ -1,7 +1,8 @@
 -- Laws of writing into a lent slice.
-use Prim.Native.Nat.{ℕ, suc, _+_, _-_, _*_, _/_, _%_, _^_, _<_, _≤_}
+use Prim.Native.Nat.{ℕ, suc, _+_, _-_, _*_, _/_, _%_, _^_, _<_, _≤_, min}
 use mathlib.Core.Path.{_≡_, refl, sym, ap, _∙_}
 use mathlib.Core.List.{[], _∷_, _++_}
+use native.Mathlib.Decide.{decLe}
 use native.Mathlib.Omega.{arith}
 use native.Mathlib.Nat.{add-zero}
 use lib.ListN.{length, getD, take, drop, set, length-set, length-append, length-take, length-drop}
@@ -38,58 +39,61 @@ two-bytes o p q i n d e = let j : i + 1 ≡ suc i = omega arith in cc
 -- ---- copy
 
 -- what is left to copy, as far as there is room, gives what copying all of it gives
-pub record Copied (s o₀ : Bytes) (i room from n : ℕ) (o : Bytes) (k : ℕ) : Type 0 where
+pub record Copied (s o₀ : Bytes) (i room from n e : ℕ) (o : Bytes) (k : ℕ) : Type 0 where
+  pub limit : e ≡ min n room
   pub within : from + n ≤ length s
   pub rooms : i + room ≡ length o₀
   pub passed : k ≤ n
   pub len : length o ≡ length o₀
   pub left : sets o (i + k) (take (n - k) (drop (from + k) s)) ≡ sets o₀ i (take n (drop from s))
 
-pub copied-start : (s o : Bytes) (i from n : ℕ) → from + n ≤ length s → i < length o → Copied s o i (length o - i) from n o 0
-copied-start s o i from n h g =
+copied-start : (s o : Bytes) (i from n e : ℕ) → from + n ≤ length s → i < length o → e ≡ min n (length o - i) → Copied s o i (length o - i) from n e o 0
+copied-start s o i from n e h g m =
     let a : i + 0 ≡ i = omega arith in
     let b : from + 0 ≡ from = omega arith in
     let c : n - 0 ≡ n = omega arith in
-    record { within = h; rooms = omega arith; passed = omega arith; len = refl; left = rw (a, b, c) }
+    record { limit = m; within = h; rooms = omega arith; passed = omega arith; len = refl; left = rw (a, b, c) }
 
 -- the start of a loop over a part
-pub copied-part : (s o : Bytes) (i : ℕ) (p : Part) → Lies s p → i < length o →
-    Copied s o i (length o - i) (p .from) (p .to - p .from) o 0
-copied-part s o i p h g = copied-start s o i (p .from) (p .to - p .from) (omega arith) g
+pub copied-part : (s o : Bytes) (i : ℕ) (p : Part) (e : ℕ) → Lies s p → i < length o → e ≡ min (p .to - p .from) (length o - i) →
+    Copied s o i (length o - i) (p .from) (p .to - p .from) e o 0
+copied-part s o i p e h g m = copied-start s o i (p .from) (p .to - p .from) e (omega arith) g m
 
 pub copied-none : (s : Bytes) (p : Part) (o : Bytes) (i : ℕ) → length o ≤ i → o ≡ sets o i (partIn s p)
 copied-none s p o i h = sym (sets-out (partIn s p) o i h)
 
-module _ (s o₀ : Bytes) (i room from n : ℕ) (o : Bytes) (k : ℕ) (c : Copied s o₀ i room from n o k) where
-  pub copied-end : n ≤ k → o ≡ sets o₀ i (take n (drop from s))
-  copied-end h = let d : n - k ≡ 0 = omega arith in rw d at (c .left)
+module _ (s o₀ : Bytes) (i room from n e : ℕ) (o : Bytes) (k : ℕ) (c : Copied s o₀ i room from n e o k) where
+  pub copied-end : e ≤ k → o ≡ sets o₀ i (take n (drop from s))
+  copied-end h =
+      elim (decLe n k) [
+        | yes g ↦ let d : n - k ≡ 0 = omega arith in rw d at (c .left)
+        | no g ↦ sym (sets-out (take (n - k) (drop (from + k) s)) o (i + k) (omega (arith, c .limit, c .rooms, c .len))) ∙ c .left
+      ]
 
-  pub copied-full : room ≤ k → o ≡ sets o₀ i (take n (drop from s))
-  copied-full h = sym (sets-out (take (n - k) (drop (from + k) s)) o (i + k) (omega arith)) ∙ c .left
-
-  module _ (h : k < n) (g : k < room) where
+  module _ (h : k < e) where
     pub copied-in : i + k < length o
-    copied-in = omega arith
+    copied-in = omega (arith, c .limit)
 
     pub copied-from : from + k < length s
-    copied-from = omega arith
+    copied-from = omega (arith, c .limit)
 
-    pub copied-again : Copied s o₀ i room from n (set o (i + k) (getD s (from + k) 0)) (k + 1)
+    pub copied-again : Copied s o₀ i room from n e (set o (i + k) (getD s (from + k) 0)) (k + 1)
     copied-again =
-        let d : n - k ≡ suc (n - (k + 1)) = omega arith in
-        let e : from + (k + 1) ≡ suc (from + k) = omega arith in
+        let d : n - k ≡ suc (n - (k + 1)) = omega (arith, c .limit) in
+        let u : from + (k + 1) ≡ suc (from + k) = omega arith in
         let f : i + (k + 1) ≡ suc (i + k) = omega arith in
         let z : take (n - k) (drop (from + k) s) ≡ getD s (from + k) 0 ∷ take (n - (k + 1)) (drop (from + (k + 1)) s)
-        = rw (d, e, drop-cons s (from + k) 0 copied-from) in
+        = rw (d, u, drop-cons s (from + k) 0 copied-from) in
         record {
+          limit = c .limit;
           within = c .within;
           rooms = c .rooms;
-          passed = omega arith;
+          passed = omega (arith, c .limit);
           len = length-set o (i + k) (getD s (from + k) 0) ∙ c .len;
           left = rw f (rw z at (c .left));
         }
 
-pub ruleset copying = (copied-part, copied-none, copied-end, copied-full, copied-in, copied-from, copied-again)
+pub ruleset copying = (copied-part, copied-none, copied-end, copied-in, copied-from, copied-again)
 
 -- ---- sizes
 

@@ -2,6 +2,7 @@
 use crate::place::Act;
 use crate::place::Part;
 use field::key::Key;
+use field::number::lower;
 use field::tag::Form;
 ghost use mathlib.Core.Path.{_≡_};
 ghost use mathlib.Core.List.{_∷_, []};
@@ -47,12 +48,10 @@ pub fn copy(s: &[u8], p: Part, out: &mut [u8], i: usize)
     }
     let room = out.len() - i;
     let from = p.from;
-    let n = p.to - from;
+    let size = p.to - from;
+    let n = lower(size, room);
     let mut k = 0;
     while k < n {
-        if room <= k {
-            return;
-        }
         out[i + k] = s[from + k];
         k += 1;
     }

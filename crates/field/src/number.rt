@@ -30,7 +30,7 @@ pub fn two_at(s: &[u8], i: usize) -> usize
 }
 
 // The lower of two numbers.
-pub(crate) fn lower(x: usize, y: usize) -> usize
+pub fn lower(x: usize, y: usize) -> usize
     ensures { λ r. ⌜ r ≡ min x y ⌝ }
 {
     if x < y {

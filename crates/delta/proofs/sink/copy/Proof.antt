@@ -6,10 +6,10 @@ use Rattle.delta.proofs.sink.copy.Statement.{statement}
 use Rattle.delta.proofs.sink.copy.Tie as tie
 
 abbrev Inv-loop : tie.InvT-loop
-Inv-loop s out₀ i room from n k₀ out k = Copied s out₀ i room from n out k
+Inv-loop s out₀ i room from size n k₀ out k = Copied s out₀ i room from size n out k
 
 abbrev μ-loop : tie.MeasureT-loop
-μ-loop s out₀ i room from n k₀ out k = n - k
+μ-loop s out₀ i room from size n k₀ out k = n - k
 
 returns : tie.Need-returns Inv-loop μ-loop
 returns c = search (copying, needs)
@@ -17,17 +17,14 @@ returns c = search (copying, needs)
 sub-room : tie.Need-sub-room Inv-loop μ-loop
 sub-room c = search (copying, needs)
 
-sub-n : tie.Need-sub-n Inv-loop μ-loop
-sub-n c = search (copying, needs)
+sub-size : tie.Need-sub-size Inv-loop μ-loop
+sub-size c = search (copying, needs)
+
+lower-requires : tie.Need-lower-requires Inv-loop μ-loop
+lower-requires c κs = search (copying, needs)
 
 loop-holds : tie.Need-loop-holds Inv-loop μ-loop
 loop-holds c = search (copying, needs)
-
-same-length : tie.Need-same-length Inv-loop μ-loop
-same-length c = search (copying, needs)
-
-returns-2 : tie.Need-returns-2 Inv-loop μ-loop
-returns-2 c = search (copying, needs)
 
 add-out : tie.Need-add-out Inv-loop μ-loop
 add-out c = search (copying, needs)
@@ -50,11 +47,11 @@ loop-less c = search (copying, needs)
 loop-again : tie.Need-loop-again Inv-loop μ-loop
 loop-again c = search (copying, needs)
 
-same-length-2 : tie.Need-same-length-2 Inv-loop μ-loop
-same-length-2 c = search (copying, needs)
+same-length : tie.Need-same-length Inv-loop μ-loop
+same-length c = search (copying, needs)
 
-returns-3 : tie.Need-returns-3 Inv-loop μ-loop
-returns-3 c = search (copying, needs)
+returns-2 : tie.Need-returns-2 Inv-loop μ-loop
+returns-2 c = search (copying, needs)
 
 pub copy-spec : {M : Type 1} → statement M
 copy-spec =
@@ -64,10 +61,9 @@ copy-spec =
     μ-loop
     returns
     sub-room
-    sub-n
+    sub-size
+    lower-requires
     loop-holds
-    same-length
-    returns-2
     add-out
     shared-slice-read-out
     add-out-2
@@ -75,5 +71,5 @@ copy-spec =
     add-k
     loop-less
     loop-again
-    same-length-2
-    returns-3)
+    same-length
+    returns-2)
