@@ -7,6 +7,7 @@ pub mod Places
 pub mod Entries
 pub mod Turning
 pub mod Walking
+pub mod Skipping
 pub mod Fitting
 pub mod Answering
 pub mod Differences

@@ -43,6 +43,7 @@ use Rattle.delta.specs.declared.walk.Step.the-variants as step
 use Rattle.delta.specs.declared.walk.Output.the-variants.{NoRoom, Written}
 use Rattle.delta.specs.Turn.{TurnIs, TurnMeans}
 use Rattle.delta.specs.Write.{fieldAs, writes, plusItem, plusAll, zero, Room}
+use Rattle.delta.specs.Skip.{Skips}
 use Rattle.delta.specs.Walk.{EntryIn, bothOf, Passed, leftOf, Wrote, StepMeans, StepIs, Runs, outputOf, wholeOut}
 use Rattle.delta.proofs.Sinking.{sets-append}
 use Rattle.delta.proofs.Tabling.{table-held}
@@ -378,6 +379,42 @@ module _ (ra : Reading) (a : Bytes) (i : ℕ) (rb : Reading) (b : Bytes) (j : �
   both-right x y q = let f = (rw q at (h .is)) .1 .fits in record { key = f .key; act = f .act }
 
 pub ruleset stepping = (step-over, step-left, step-right, step-both, left-in, right-in, both-left, both-right)
+
+-- ---- put_step
+
+module _ (form : Form) (ra : Reading) (a : Bytes) (i : ℕ) (rb : Reading) (b : Bytes) (j : ℕ) (c : Counts) (o o′ : Bytes) (t : Step)
+    (h : StepIs form ra a i rb b j c o o′ t) where
+  pub skip-over : (s : Side) → t ≡ step.Over s → StepIs form ra a i rb b j c o o′ (step.Over s)
+  skip-over s e = rw e at h
+
+  module _ (p q : ℕ) (c′ : Counts) (e : t ≡ step.On p q c′) where
+    turned : Wrote form ra a i rb b j c o o′ p q c′
+    turned = rw e at (h .is)
+
+    pub skip-ready-a : Ready ra a p
+    skip-ready-a = turned .ready-a
+
+    pub skip-ready-b : Ready rb b q
+    skip-ready-b = turned .ready-b
+
+    module _ (k : ℕ) (s : Skips ra a p rb b q k) where
+      -- what both sides have behind the turn is passed over
+      pub skip-on : StepIs form ra a i rb b j c o o′ (step.On (p + k) (q + k) c′)
+      skip-on = let w = turned in record {
+        is = record {
+          written = w .written;
+          is = w .is ∙ ap (λ (d : D). w .written ++ d) (s .is);
+          counts = w .counts;
+          laid = w .laid;
+          short = w .short;
+          few = w .few;
+          ready-a = s .ready-a;
+          ready-b = s .ready-b;
+          ahead = (omega (arith, w .ahead .0), omega (arith, w .ahead .1), omega (arith, w .ahead .2));
+        };
+      }
+
+pub ruleset skipped = (skip-over, skip-ready-a, skip-ready-b, skip-on)
 
 -- ---- put_merge
 

@@ -9,3 +9,4 @@ pub mod Reading
 pub mod Turn
 pub mod Write
 pub mod Walk
+pub mod Skip

@@ -8,6 +8,7 @@ pub mod place;
 pub mod reading;
 pub mod refusal;
 pub mod sink;
+pub mod skip;
 pub mod table;
 pub mod turn;
 pub mod walk;

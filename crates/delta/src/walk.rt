@@ -7,6 +7,7 @@ use crate::reading::Reading;
 use crate::reading::read_at;
 use crate::sink::Counts;
 use crate::sink::put_item;
+use crate::skip::skip;
 use crate::table::merged;
 use crate::turn::Side;
 use crate::turn::Turn;
@@ -16,6 +17,8 @@ ghost use mathlib.Core.Path.{_≡_};
 ghost use mathlib.Core.List.{_∷_, []};
 ghost use lib.ListN.{length, drop};
 ghost use lib.Seq.{sets};
+ghost use Rattle.field.specs.declared.tag.Form.the-variants as form;
+ghost use Rattle.delta.specs.Admission.{Inputs};
 ghost use Rattle.delta.specs.Place.{itemIn};
 ghost use Rattle.delta.specs.Reading.{readAs, Ready};
 ghost use Rattle.delta.specs.Write.{Room, plusItem, plusAll, fieldAs, writes, zero};
@@ -116,6 +119,30 @@ fn put_turn(
     }
 }
 
+// One turn, written; behind it what both sides have in common is passed over.
+fn put_step(
+    form: Form,
+    ra: Reading,
+    a: &[u8],
+    i: usize,
+    rb: Reading,
+    b: &[u8],
+    j: usize,
+    out: &mut [u8],
+    counts: Counts,
+) -> Step
+    requires { ⌜ Ready ra (now a) i × (Ready rb (now b) j × Room counts) ⌝ }
+    ensures { λ r. ⌜ StepIs form ra (now (a .entry)) i rb (now (b .entry)) j counts (now (out .entry)) (now (out .exit)) r ⌝ }
+{
+    match put_turn(form, ra, a, i, rb, b, j, out, counts) {
+        Step::Over(side) => Step::Over(side),
+        Step::On(p, q, sum) => {
+            let k = skip(ra, a, p, rb, b, q);
+            Step::On(p + k, q + k, sum)
+        }
+    }
+}
+
 // The merge of two runs, as far as out has room; its counts whether it has room or not.
 pub fn put_merge(form: Form, ra: Reading, a: &[u8], rb: Reading, b: &[u8], out: &mut [u8]) -> Counts
     requires { ⌜ Runs ra (now a) rb (now b) ⌝ }
@@ -129,7 +156,7 @@ pub fn put_merge(form: Form, ra: Reading, a: &[u8], rb: Reading, b: &[u8], out: 
         withdrawn: 0,
     };
     let side = loop {
-        match put_turn(form, ra, a, i, rb, b, j, out, counts) {
+        match put_step(form, ra, a, i, rb, b, j, out, counts) {
             Step::Over(side) => break side,
             Step::On(p, q, sum) => {
                 i = p;
@@ -176,5 +203,32 @@ pub(crate) fn put_whole(
         return Output::NoRoom;
     }
     put_merge(form, ra, a, rb, b, out);
+    Output::Written(counts)
+}
+
+// The difference of two good snapshots, if out has room for all of it; else nothing is written. It is never longer than
+// both together: where out is as long as that, it is written at once.
+pub(crate) fn put_difference(old: &[u8], new: &[u8], out: &mut [u8]) -> Output
+    requires { ⌜ Inputs form.Snapshot (now old) form.Snapshot (now new) ⌝ }
+    ensures { λ r. ⌜ (r ≡ outputOf form.Delta (mergedAs Reading.Withdrawn (now (old .entry)) Reading.Announced (now (new .entry))) (length (now (out .entry)))) × (now (out .exit) ≡ wholeOut form.Delta (mergedAs Reading.Withdrawn (now (old .entry)) Reading.Announced (now (new .entry))) (now (out .entry))) ⌝ }
+{
+    if out.len() < old.len() + new.len() {
+        return put_whole(
+            Form::Delta,
+            Reading::Withdrawn,
+            old,
+            Reading::Announced,
+            new,
+            out,
+        );
+    }
+    let counts = put_merge(
+        Form::Delta,
+        Reading::Withdrawn,
+        old,
+        Reading::Announced,
+        new,
+        out,
+    );
     Output::Written(counts)
 }

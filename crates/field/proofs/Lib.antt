@@ -15,5 +15,6 @@ pub mod Passing
 pub mod Run
 pub mod Encode
 pub mod Walk
+pub mod Common
 pub mod Sizes
 pub mod Examples

@@ -66,7 +66,7 @@ clean-value (x ∷ l) h p =
           let f : n ≡ (n - m) + m = omega arith in
           let g : (x * 2 ^ n + v) % 2 ^ m ≡ v % 2 ^ m
           = ap (λ (y : ℕ). (x * y + v) % 2 ^ m) (ap (λ (y : ℕ). 2 ^ y) f ∙ pow-add 2 (n - m) m)
-            ∙ rw (← mul-assoc x (2 ^ (n - m)) (2 ^ m)) (mul-add-mod-self-right (x * 2 ^ (n - m)) (2 ^ m) v) in
+          ∙ rw (← mul-assoc x (2 ^ (n - m)) (2 ^ m)) (mul-add-mod-self-right (x * 2 ^ (n - m)) (2 ^ m) v) in
           rw (z, mod-one, clean-value l (h .1) (p - 8), d, g)
     ]
 
@@ -117,6 +117,30 @@ module _ (s : List ℕ) (o : (i : ℕ) → Fits w8 (getD s i 0)) (i : ℕ) (h : 
 
   word-lt : wordAt s i < 2 ^ 64
   word-lt = rw word-value (value-lt eight below)
+
+-- equal values of equally many bytes are equal bytes
+value-same : (a b : List ℕ) → AllBelow a → AllBelow b → length a ≡ length b → value a ≡ value b → a ≡ b
+unfolding value
+value-same [] [] h k l e = refl
+value-same [] (y ∷ b) h k l e = absurd (omega arith)
+value-same (x ∷ a) [] h k l e = absurd (omega arith)
+value-same (x ∷ a) (y ∷ b) h k l e =
+    let m : length a ≡ length b = omega arith in
+    let w : ℕ = 2 ^ (8 * length b) in
+    let p : value a < w = rw m at (value-lt a (h .1)) in
+    let q : value b < w = value-lt b (k .1) in
+    let f : x * w + value a ≡ y * w + value b = rw m at e in
+    let u : x ≡ y = sym (digits-div x p) ∙ ap (λ (n : ℕ). n / w) f ∙ digits-div y q in
+    let v : value a ≡ value b = sym (digits-mod x p) ∙ ap (λ (n : ℕ). n % w) f ∙ digits-mod y q in
+    cc (value-same a b (h .1) (k .1) m v)
+
+-- equal words are equal bytes
+pub word-bytes : (a b : List ℕ) → ((i : ℕ) → Fits w8 (getD a i 0)) → ((i : ℕ) → Fits w8 (getD b i 0)) → (i j : ℕ) → i + 8 ≤ length a → j + 8 ≤ length b
+    → wordAt a i ≡ wordAt b j → take 8 (drop i a) ≡ take 8 (drop j b)
+word-bytes a b o p i j h k e =
+    eight-is a o i h
+    ∙ value-same (eight a o i h) (eight b p j k) (below a o i h) (below b p j k) refl (sym (word-value a o i h) ∙ e ∙ word-value b p j k)
+    ∙ sym (eight-is b p j k)
 
 -- a shift leaves what lies past the prefix
 shift-zero : (x p : ℕ) → p ≤ 64 → eqb ((x * 2 ^ p) % 2 ^ 64) 0 ≡ eqb (x % 2 ^ (64 - p)) 0

@@ -48,7 +48,7 @@ module _ (a b : List ℕ) (o : (i : ℕ) → Fits w8 (getD a i 0)) (p : (i : ℕ
           let q : wordAt a 8 ≡ wordAt b 8 = omega arith in
           record {
             holds = λ g. first ∙ word-upto a b o p 8 (omega arith) (omega arith) q 7 (omega arith)
-              ∙ word-less a b o p 15 (omega arith) (omega arith) (rw (s, t) at l);
+                ∙ word-less a b o p 15 (omega arith) (omega arith) (rw (s, t) at l);
           }
 
 pub ruleset below = (no, below-first, below-second, below-third)

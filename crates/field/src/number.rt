@@ -48,7 +48,7 @@ fn four_at(s: &[u8], i: usize) -> usize
 }
 
 // The eight bytes at i as a number. Made of two fours it is compiled to one load.
-pub(crate) fn word_at(s: &[u8], i: usize) -> usize
+pub fn word_at(s: &[u8], i: usize) -> usize
     requires { ⌜ i + 8 ≤ length (now s) ⌝ }
     ensures { λ r. ⌜ r ≡ wordAt (now (s .entry)) i ⌝ }
 {

@@ -14,8 +14,8 @@ abbrev μ-loop : tie.MeasureT-loop
 loop-holds : tie.Need-loop-holds Inv-loop μ-loop
 loop-holds c = search (merging, needs)
 
-put-turn-requires : tie.Need-put-turn-requires Inv-loop μ-loop
-put-turn-requires c κs = search (merging, needs)
+put-step-requires : tie.Need-put-step-requires Inv-loop μ-loop
+put-step-requires c κs = search (merging, needs)
 
 enum-known-side : tie.Need-enum-known-side Inv-loop μ-loop
 enum-known-side c = search (merging, needs)
@@ -60,7 +60,7 @@ put-merge-spec =
     Inv-loop
     μ-loop
     loop-holds
-    put-turn-requires
+    put-step-requires
     enum-known-side
     enum-known-p
     loop-less
