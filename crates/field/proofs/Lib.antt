@@ -1,6 +1,6 @@
 pub mod Comparing
 pub mod Numbers
-pub mod Words
+pub mod Eights
 pub mod Masks
 pub mod Prefixes
 pub mod Bodies
@@ -11,6 +11,7 @@ pub mod Fronts
 pub mod Fields
 pub mod Keys
 pub mod Judging
+pub mod Bodywords
 pub mod Passing
 pub mod Run
 pub mod Encode

@@ -7,7 +7,7 @@ use native.Mathlib.Decide.{decLt}
 use native.Mathlib.Nat.{zero-mod, mod-one, mod-eq-of-lt, mul-add-mod-self-right, mul-assoc, mul-suc, mul-div-cancel, mul-mod-left}
 use native.Mathlib.Omega.{arith}
 use borrow.Author.Tests.{eq-eqb, ne-eqb}
-use mir.Syntax.{w8}
+use mir.Syntax.{w8, w64}
 use mir.Val.{Fits}
 use lib.Dec.{eqb}
 use lib.Pow.{pow-pos, pow-add}
@@ -16,6 +16,7 @@ use lib.ListN.{length, getD, take, drop, length-take, length-drop}
 use lib.Seq.{drop-cons, drop-drop, take-add, length-take-le}
 use Rattle.field.specs.Number.{fourAt, wordAt}
 use Rattle.field.specs.Origin.{address, cleanByte, clean}
+use Rattle.field.specs.Words.{cleanHalves}
 
 -- ---- a list of bytes as a number
 
@@ -142,6 +143,14 @@ word-bytes a b o p i j h k e =
     ∙ value-same (eight a o i h) (eight b p j k) (below a o i h) (below b p j k) refl (sym (word-value a o i h) ∙ e ∙ word-value b p j k)
     ∙ sym (eight-is b p j k)
 
+true-right : (b : Bool) → b && true ≡ b
+true-right true = refl
+true-right false = refl
+
+false-right : (b : Bool) → b && false ≡ false
+false-right true = refl
+false-right false = refl
+
 -- a shift leaves what lies past the prefix
 shift-zero : (x p : ℕ) → p ≤ 64 → eqb ((x * 2 ^ p) % 2 ^ 64) 0 ≡ eqb (x % 2 ^ (64 - p)) 0
 shift-zero x p h =
@@ -150,65 +159,43 @@ shift-zero x p h =
     = mod-mul (x * 2 ^ p) (pow-pos (64 - p)) (pow-pos p) ∙ rw (mul-div-cancel x (pow-pos p), mul-mod-left x (2 ^ p)) in
     let f : 2 ^ 64 ≡ 2 ^ (64 - p) * 2 ^ p = ap (λ (y : ℕ). 2 ^ y) d ∙ pow-add 2 (64 - p) p in
     ap (λ (y : ℕ). eqb ((x * 2 ^ p) % y) 0) f ∙ rw e (sym (both-zero (x % 2 ^ (64 - p)) 0 (2 ^ p) (pow-pos p)) ∙ true-right (eqb (x % 2 ^ (64 - p)) 0))
-  where
-    true-right : (b : Bool) → b && true ≡ b
-    true-right true = refl
-    true-right false = refl
+
+-- ---- an address by its halves
+
+module _ (p high low : ℕ) where
+  pub halves-low : Fits w64 low → p < 64 → (low ≡ 0 → ⊥) → false ≡ cleanHalves p high low
+  unfolding cleanHalves
+  halves-low w k n =
+      let z : 64 - (p - 64) ≡ 64 = omega arith in
+      rw (z, mod-eq-of-lt (w .fits), ne-eqb low 0 n) (sym (false-right (eqb (high % 2 ^ (64 - p)) 0)))
+
+  pub halves-high : p < 64 → low ≡ 0 → eqb ((high * 2 ^ p) % 2 ^ 64) 0 ≡ cleanHalves p high low
+  unfolding cleanHalves
+  halves-high k n = rw (n, zero-mod, shift-zero high p (omega arith)) (sym (true-right (eqb (high % 2 ^ (64 - p)) 0)))
+
+  pub halves-rest : 64 ≤ p → p < 128 → eqb ((low * 2 ^ (p - 64)) % 2 ^ 64) 0 ≡ cleanHalves p high low
+  unfolding cleanHalves
+  halves-rest k n = let z : 64 - p ≡ 0 = omega arith in rw (z, mod-one, shift-zero low (p - 64) (omega arith))
+
+  pub halves-all : 128 ≤ p → true ≡ cleanHalves p high low
+  unfolding cleanHalves
+  halves-all k =
+      let z : 64 - p ≡ 0 = omega arith in
+      let y : 64 - (p - 64) ≡ 0 = omega arith in
+      rw (z, y, mod-one high, mod-one low)
+
+pub ruleset halving = (halves-low, halves-high, halves-rest, halves-all)
 
 -- ---- the sixteen bytes at i
 
-module _ (s : List ℕ) (o : (i : ℕ) → Fits w8 (getD s i 0)) (i : ℕ) (h : i + 16 ≤ length s) (p : ℕ) where
-  halves : clean p (take 16 (drop i s)) ≡ eqb (wordAt s i % 2 ^ (64 - p)) 0 && eqb (wordAt s (i + 8) % 2 ^ (64 - (p - 64))) 0
-  halves =
-      let l : length (take 8 (drop i s)) ≡ 8 = length-take-le 8 (drop i s) (simp length-drop (omega arith)) in
-      rw (take-add 8 8 (drop i s), drop-drop 8 i s, clean-append (take 8 (drop i s)) (take 8 (drop (i + 8) s)) p, l, clean-word s o i (omega arith) p, clean-word s o (i + 8) (omega arith) (p - 64))
+pub halves : (s : List ℕ) → ((i : ℕ) → Fits w8 (getD s i 0)) → (i : ℕ) → i + 16 ≤ length s → (p : ℕ)
+    → clean p (take 16 (drop i s)) ≡ cleanHalves p (wordAt s i) (wordAt s (i + 8))
+unfolding cleanHalves
+halves s o i h p =
+    let l : length (take 8 (drop i s)) ≡ 8 = length-take-le 8 (drop i s) (simp length-drop (omega arith)) in
+    rw (take-add 8 8 (drop i s), drop-drop 8 i s, clean-append (take 8 (drop i s)) (take 8 (drop (i + 8) s)) p, l, clean-word s o i (omega arith) p, clean-word s o (i + 8) (omega arith) (p - 64))
 
-  module _ (low : ℕ) (e : low ≡ wordAt s (i + 8)) where
-    mask-low : p < 64 → (low ≡ 0 → ⊥) → false ≡ clean p (take 16 (drop i s))
-    mask-low k n =
-        let z : 64 - (p - 64) ≡ 64 = omega arith in
-        let w : wordAt s (i + 8) < 2 ^ 64 = word-lt s o (i + 8) (omega arith) in
-        rw (halves, z, mod-eq-of-lt w, ← e, ne-eqb low 0 n) (sym (false-right (eqb (wordAt s i % 2 ^ (64 - p)) 0)))
-      where
-        false-right : (b : Bool) → b && false ≡ false
-        false-right true = refl
-        false-right false = refl
-
-    mask-high : (high : ℕ) → high ≡ wordAt s i → p < 64 → low ≡ 0 → eqb ((high * 2 ^ p) % 2 ^ 64) 0 ≡ clean p (take 16 (drop i s))
-    mask-high high d k n =
-        let z : 64 - (p - 64) ≡ 64 = omega arith in
-        let w : wordAt s (i + 8) ≡ 0 = sym e ∙ n in
-        rw (halves, z, w, shift-zero high p (omega arith), d) (sym (true-right (eqb (wordAt s i % 2 ^ (64 - p)) 0)))
-      where
-        true-right : (b : Bool) → b && true ≡ b
-        true-right true = refl
-        true-right false = refl
-
-    mask-rest : 64 ≤ p → p < 128 → eqb ((low * 2 ^ (p - 64)) % 2 ^ 64) 0 ≡ clean p (take 16 (drop i s))
-    mask-rest k n =
-        let z : 64 - p ≡ 0 = omega arith in
-        rw (halves, z, mod-one, shift-zero low (p - 64) (omega arith), e)
-
-  mask-all : 128 ≤ p → true ≡ clean p (take 16 (drop i s))
-  mask-all k =
-      let z : 64 - p ≡ 0 = omega arith in
-      let y : 64 - (p - 64) ≡ 0 = omega arith in
-      rw (halves, z, y, mod-one, mod-one)
-
--- ---- the address of an origin's body
-
-module _ (b : List ℕ) (o : (i : ℕ) → Fits w8 (getD b i 0)) (l : length b ≡ 23) (p : ℕ) where
-  pub address-low : (low : ℕ) → low ≡ wordAt b 9 → p < 64 → (low ≡ 0 → ⊥) → false ≡ clean p (address b)
-  address-low low e k n = mask-low b o 1 (omega arith) p low e k n
-
-  pub address-high : (low high : ℕ) → low ≡ wordAt b 9 → high ≡ wordAt b 1 → p < 64 → low ≡ 0
-      → eqb ((high * 2 ^ p) % 2 ^ 64) 0 ≡ clean p (address b)
-  address-high low high e d k n = mask-high b o 1 (omega arith) p low e high d k n
-
-  pub address-rest : (low : ℕ) → low ≡ wordAt b 9 → 64 ≤ p → p < 128 → eqb ((low * 2 ^ (p - 64)) % 2 ^ 64) 0 ≡ clean p (address b)
-  address-rest low e k n = mask-rest b o 1 (omega arith) p low e k n
-
-  pub address-all : 128 ≤ p → true ≡ clean p (address b)
-  address-all k = mask-all b o 1 (omega arith) p k
-
-pub ruleset masking = (address-low, address-high, address-rest, address-all)
+-- the address of an origin's body
+pub address-is : (b : List ℕ) → ((i : ℕ) → Fits w8 (getD b i 0)) → length b ≡ 23 → (p high low : ℕ) → high ≡ wordAt b 1 → low ≡ wordAt b 9
+    → (r : Bool) → r ≡ cleanHalves p high low → r ≡ clean p (address b)
+address-is b o l p high low e f r q = q ∙ rw (e, f) (sym (halves b o 1 (omega arith) p))

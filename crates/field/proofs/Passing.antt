@@ -3,11 +3,13 @@ use Prim.Native.Nat.{ℕ, _+_, _-_, _<_, _≤_}
 use mathlib.Core.Path.{_≡_, refl, sym, _∙_}
 use mathlib.Core.List.{List}
 use mathlib.Core.Bool.{Bool, true, false, not, false≢true}
+use native.Mathlib.Decide.{decLt}
 use native.Mathlib.Omega.{arith}
 use borrow.Author.Tests.{not-true, not-false}
 use mir.Syntax.{w8}
 use mir.Val.{Fits}
-use lib.ListN.{length, getD, drop}
+use lib.ListN.{length, getD, drop, length-take, length-drop, List·getD-eq-default}
+use lib.Seq.{getD-take, getD-drop}
 use Rattle.order.specs.declared.Ordering.the-variants.{Less}
 use Rattle.order.specs.Comparison.{bytes}
 use Rattle.field.specs.declared.head.Field.the-variants.{Whole}
@@ -16,44 +18,22 @@ use Rattle.field.specs.declared.tag.Form.{Form}
 use Rattle.field.specs.declared.tag.Tag.{Tag}
 use Rattle.field.specs.declared.tag.Tag.the-variants.{Unknown, Origin, RouterKey, Aspa}
 use Rattle.field.specs.declared.verdict.Stand.{Stand}
-use Rattle.field.specs.Number.{wordAt, twoAt}
+use Rattle.field.specs.Number.{twoAt}
 use Rattle.field.specs.Origin.{goodOrigin}
 use Rattle.field.specs.Tag.{tagOf, kindNumber, kindOf, goodTagged, goodBody}
 use Rattle.field.specs.Places.{part, fieldAt, keyIn, keyPlace}
-use Rattle.field.specs.Progress.{Judged, originKey, If, NextOrigin, Passes, Further}
+use Rattle.field.specs.Progress.{Judged, originKey, If, OriginHead, Passes, Further}
+use Rattle.field.specs.declared.words.Words.{Words}
+use Rattle.field.specs.Words.{wordsOf, nextWords}
 use Rattle.field.proofs.Fields.{field-whole}
 use Rattle.field.proofs.Judging.{judged-next}
-use Rattle.field.proofs.Words.{word-less, word-same, word-upto}
+use Rattle.field.proofs.Bodywords.{next-is}
 
 -- a no decides nothing
-pub no : (P : Type 0) → If false P
-no P = record { holds = λ e. absurd (false≢true e) }
+pub unsure : (P : Type 0) → If false P
+unsure P = record { holds = λ e. absurd (false≢true e) }
 
--- ---- origin_below
-
-module _ (a b : List ℕ) (o : (i : ℕ) → Fits w8 (getD a i 0)) (p : (i : ℕ) → Fits w8 (getD b i 0)) (m : length a ≡ 23) (n : length b ≡ 23) where
-  module _ (u v : ℕ) (e : u ≡ wordAt a 0) (f : v ≡ wordAt b 0) where
-    pub below-first : u < v → If true (bytes a b ≡ Less)
-    below-first h = record { holds = λ z. word-less a b o p 0 (omega arith) (omega arith) (rw (e, f) at h) }
-
-    module _ (h : v ≤ u) (k : u ≤ v) (w x : ℕ) (c : w ≡ wordAt a 8) (d : x ≡ wordAt b 8) where
-      first : bytes a b ≡ bytes (drop 8 a) (drop 8 b)
-      first = let q : wordAt a 0 ≡ wordAt b 0 = omega arith in word-same a b o p 0 (omega arith) (omega arith) q
-
-      pub below-second : w < x → If true (bytes a b ≡ Less)
-      below-second l = record { holds = λ z. first ∙ word-less a b o p 8 (omega arith) (omega arith) (rw (c, d) at l) }
-
-      pub below-third : x ≤ w → w ≤ x → (y z : ℕ) → y ≡ wordAt a 15 → z ≡ wordAt b 15 → y < z → If true (bytes a b ≡ Less)
-      below-third i j y z s t l =
-          let q : wordAt a 8 ≡ wordAt b 8 = omega arith in
-          record {
-            holds = λ g. first ∙ word-upto a b o p 8 (omega arith) (omega arith) q 7 (omega arith)
-                ∙ word-less a b o p 15 (omega arith) (omega arith) (rw (s, t) at l);
-          }
-
-pub ruleset below = (no, below-first, below-second, below-third)
-
--- ---- next_origin
+-- ---- origin_head
 
 -- the rule of an origin's body
 origin-body : (form : Form) (tag : ℕ) (b : List ℕ) → kindOf form tag ≡ 1 → goodBody form tag b ≡ goodOrigin b
@@ -67,54 +47,75 @@ origin-body form tag b e = go (tagOf form tag) e
     go (Aspa action) d = absurd (omega arith)
 
 module _ (form : Form) (s : List ℕ) (at : ℕ) (h : at + 26 ≤ length s) where
-  pub next-is : (kind n : ℕ) → kind ≡ kindOf form (getD s at 0) → kind ≡ 1 → n ≡ twoAt s (at + 1) → n ≡ 23
-      → (g : Bool) → g ≡ goodOrigin (part s (at + 3) (at + 26)) → not g ≡ false
-      → (r : Bool) → If r (bytes (part s (at - 23) at) (part s (at + 3) (at + 26)) ≡ Less) → If r (NextOrigin form s at)
-  next-is kind n e f c d g u t r i =
-      let k : kindOf form (getD s at 0) ≡ 1 = sym e ∙ f in
+  pub head-is : (kind n : ℕ) → kind ≡ kindOf form (getD s at 0) → kind ≡ 1 → n ≡ twoAt s (at + 1) → n ≡ 23 → If true (OriginHead form s at)
+  head-is kind n e f c d =
       let z : at + 3 + n ≡ at + 26 = omega arith in
       record {
         holds = λ y. record {
           reads = rw z at (field-whole s at n (omega arith) (omega arith) c (omega arith));
-          kind = k;
-          good = origin-body form (getD s at 0) (part s (at + 3) (at + 26)) k ∙ sym u ∙ not-false g t;
-          above = i .holds y;
+          kind = sym e ∙ f;
         };
       }
 
-pub ruleset nexts = (no, next-is)
+pub ruleset heads = (unsure, head-is)
 
 -- ---- pass_origins
 
-pub record Passed (form : Form) (s : List ℕ) (start at : ℕ) : Type 0 where
+pub record Passed (form : Form) (s : List ℕ) (start at : ℕ) (before : Words) : Type 0 where
   pub origin : 23 ≤ start
   pub on : start ≤ at
   pub judged : Judged form s at (originKey at)
+  pub words : before ≡ wordsOf (part s (at - 23) at)
 
-pub passed-start : (form : Form) (s : List ℕ) (start : ℕ) → 23 ≤ start → Judged form s start (originKey start) → Passed form s start start
-passed-start form s start h j = record { origin = h; on = omega arith; judged = j }
+pub passed-start : (form : Form) (s : List ℕ) (start : ℕ) (w : Words) → 23 ≤ start → Judged form s start (originKey start) → w ≡ wordsOf (part s (start - 23) start)
+    → Passed form s start start w
+passed-start form s start w h j e = record { origin = h; on = omega arith; judged = j; words = e }
 
-module _ (form : Form) (s : List ℕ) (start at : ℕ) (l : Passed form s start at) where
+-- a part of bytes is bytes
+part-bytes : (s : List ℕ) → ((i : ℕ) → Fits w8 (getD s i 0)) → (from to : ℕ) → (i : ℕ) → Fits w8 (getD (part s from to) i 0)
+part-bytes s o from to i =
+    elim (decLt i (to - from)) [
+      | yes h ↦ rw (getD-take (to - from) (drop from s) i 0 h, getD-drop from s i 0) (o (from + i))
+      | no h ↦ let z : length (part s from to) ≤ i = simp length-take (omega arith) in rw (List·getD-eq-default (part s from to) 0 z) (record { fits = omega arith })
+    ]
+
+pub begin-long : (form : Form) (s : List ℕ) (start : ℕ) → 23 ≤ start → Judged form s start (originKey start) → length (part s (start - 23) start) ≡ 23
+begin-long form s start h j = simp (length-take, length-drop) (omega (arith, j .within))
+
+pub begin-within : (form : Form) (s : List ℕ) (start : ℕ) → Judged form s start (originKey start) → start ≤ length s
+begin-within form s start j = j .within
+
+module _ (form : Form) (s : List ℕ) (start at : ℕ) (before : Words) (l : Passed form s start at before) where
   pub passed-end : Passes form s start at
   passed-end = record { on = l .on; judged = l .judged }
 
-  pub passed-origin : 23 ≤ at
-  passed-origin = omega (arith, l .origin, l .on)
+  module _ (h : 26 ≤ length s - at) where
+    pub passed-in : at + 26 ≤ length s
+    passed-in = omega arith
 
-  pub passed-in : 26 ≤ length s - at → at + 26 ≤ length s
-  passed-in h = omega arith
+    pub passed-long : length (part s (at + 3) (at + 26)) ≡ 23
+    passed-long = simp (length-take, length-drop) (omega arith)
 
-  pub passed-more : 26 ≤ length s - at → (b : Bool) → If b (NextOrigin form s at) → not b ≡ false → Passed form s start (at + 26)
-  passed-more h b i t =
-      let x = i .holds (not-false b t) in
-      let z : at + 26 - 23 ≡ at + 3 = omega arith in
-      record {
-        origin = l .origin;
-        on = omega (arith, l .on);
-        judged = rw z (judged-next form s at (originKey at) (l .judged) (Whole (getD s at 0) (at + 3) (at + 26)) (x .reads) (getD s at 0) (at + 3) (at + 26) refl true (sym (x .good)) refl 1 (sym (x .kind)) (record { kind = 1; from = at + 3; to = at + 26 }) refl Less (sym (x .above)) refl);
-      }
+    pub passed-more : (b : Bool) → If b (OriginHead form s at) → not b ≡ false → (w : Words) → w ≡ wordsOf (part s (at + 3) (at + 26))
+        → (r : Bool) → r ≡ nextWords before w → not r ≡ false → ((i : ℕ) → Fits w8 (getD s i 0)) → Passed form s start (at + 26) w
+    passed-more b i t w e r q u o =
+        let x = i .holds (not-false b t) in
+        let f = l .origin in
+        let g = l .on in
+        let k = l .judged .within in
+        let z : at + 26 - 23 ≡ at + 3 = omega arith in
+        let m : length (part s (at - 23) at) ≡ 23 = simp (length-take, length-drop) (omega arith) in
+        let v : nextWords (wordsOf (part s (at - 23) at)) (wordsOf (part s (at + 3) (at + 26))) ≡ true = rw (l .words, e) at (sym q ∙ not-false r u) in
+        let y = next-is (part s (at - 23) at) (part s (at + 3) (at + 26)) (part-bytes s o (at - 23) at) (part-bytes s o (at + 3) (at + 26)) m passed-long v in
+        let good : goodBody form (getD s at 0) (part s (at + 3) (at + 26)) ≡ true = origin-body form (getD s at 0) (part s (at + 3) (at + 26)) (x .kind) ∙ y .0 in
+        record {
+          origin = l .origin;
+          on = omega arith;
+          judged = rw z (judged-next form s at (originKey at) (l .judged) (Whole (getD s at 0) (at + 3) (at + 26)) (x .reads) (getD s at 0) (at + 3) (at + 26) refl true (sym good) refl 1 (sym (x .kind)) (record { kind = 1; from = at + 3; to = at + 26 }) refl Less (sym (y .1)) refl);
+          words = rw z e;
+        }
 
-pub ruleset passing = (passed-start, passed-end, passed-origin, passed-in, passed-more)
+pub ruleset passing = (passed-start, begin-long, begin-within, passed-end, passed-in, passed-long, passed-more)
 
 -- ---- pass
 

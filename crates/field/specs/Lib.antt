@@ -13,4 +13,5 @@ pub mod Run
 -- what the code's places stand for
 pub mod Places
 -- how far a check has come
+pub mod Words
 pub mod Progress

@@ -4,14 +4,12 @@ use mathlib.Core.Path.{_≡_}
 use mathlib.Core.List.{List}
 use mathlib.Core.Bool.{Bool, true}
 use lib.ListN.{length, getD, drop}
-use Rattle.order.specs.declared.Ordering.the-variants.{Less}
-use Rattle.order.specs.Comparison.{bytes}
 use Rattle.field.specs.declared.key.Key.{Key}
 use Rattle.field.specs.declared.tag.Form.{Form}
 use Rattle.field.specs.declared.head.Field.the-variants.{Whole}
 use Rattle.field.specs.declared.verdict.Stand.{Stand}
-use Rattle.field.specs.Tag.{goodBody, kindOf}
-use Rattle.field.specs.Places.{part, fieldAt, keyIn}
+use Rattle.field.specs.Tag.{kindOf}
+use Rattle.field.specs.Places.{fieldAt, keyIn}
 use Rattle.field.specs.Verdict.{verdictF, verdict}
 
 -- what the check has found at `at`, behind the key k: the rest decides
@@ -29,12 +27,10 @@ originKey at = record { kind = 1; from = at - 23; to = at }
 pub record If (r : Bool) (P : Type 0) : Type 0 where
   pub holds : r ≡ true → P
 
--- behind an origin that ends at `at` stands a good one above it
-pub record NextOrigin (form : Form) (s : List ℕ) (at : ℕ) : Type 0 where
+-- at `at` stands the head of an origin, with a body of 23 bytes
+pub record OriginHead (form : Form) (s : List ℕ) (at : ℕ) : Type 0 where
   pub reads : Whole (getD s at 0) (at + 3) (at + 26) ≡ fieldAt s at
   pub kind : kindOf form (getD s at 0) ≡ 1
-  pub good : goodBody form (getD s at 0) (part s (at + 3) (at + 26)) ≡ true
-  pub above : bytes (part s (at - 23) at) (part s (at + 3) (at + 26)) ≡ Less
 
 -- the check has come from `from` to a place behind good origins
 pub record Passes (form : Form) (s : List ℕ) (from to : ℕ) : Type 0 where

@@ -1,6 +1,7 @@
 // The body of an origin.
 use crate::number::wide;
 use crate::number::word_at;
+use crate::words::clean_halves;
 ghost use mathlib.Core.Path.{_≡_};
 ghost use lib.ListN.{length};
 ghost use Rattle.field.specs.Origin.{address, clean, goodPrefix, goodOrigin};
@@ -10,18 +11,7 @@ fn clean_address(p: usize, body: &[u8]) -> bool
     requires { ⌜ length (now body) ≡ 23 ⌝ }
     ensures { λ r. ⌜ r ≡ clean p (address (now (body .entry))) ⌝ }
 {
-    let low = word_at(body, 9);
-    if p < 64 {
-        if low != 0 {
-            return false;
-        }
-        let high = word_at(body, 1);
-        return high << p == 0;
-    }
-    if 128 <= p {
-        return true;
-    }
-    low << (p - 64) == 0
+    clean_halves(p, word_at(body, 1), word_at(body, 9))
 }
 
 // The lengths and the address of an origin, with the longest prefix of its family.

@@ -5,19 +5,20 @@ use crate::key::Key;
 use crate::key::key_at;
 use crate::key::key_compare;
 use crate::number::two_at;
-use crate::number::word_at;
-use crate::origin::origin_ok;
 use crate::tag::Form;
 use crate::tag::body_ok;
 use crate::tag::kind_of;
+use crate::words::Words;
+use crate::words::words_below;
+use crate::words::words_of;
+use crate::words::words_ok;
 use order::Ordering;
 ghost use mathlib.Core.Path.{_≡_};
 ghost use Prim.Native.Nat.{_+_, _≤_};
 ghost use lib.ListN.{length};
-ghost use Rattle.order.specs.Comparison.{bytes};
-ghost use Rattle.order.specs.declared.Ordering.the-variants.{Less};
 ghost use Rattle.field.specs.Verdict.{verdict};
-ghost use Rattle.field.specs.Progress.{Judged, originKey, If, NextOrigin, Passes, Further};
+ghost use Rattle.field.specs.Words.{nextWords};
+ghost use Rattle.field.specs.Progress.{Judged, originKey, If, OriginHead, Passes, Further};
 
 // What the check finds: nothing, or the first bad field, by its offset.
 pub enum Verdict {
@@ -34,39 +35,10 @@ pub struct Stand {
     pub before: Key,
 }
 
-// Whether the body a of an origin stands below the body b of another.
-fn origin_below(a: &[u8], b: &[u8]) -> bool
-    requires { ⌜ (length (now a) ≡ 23) × (length (now b) ≡ 23) ⌝ }
-    ensures { λ r. ⌜ If r (bytes (now (a .entry)) (now (b .entry)) ≡ Less) ⌝ }
-{
-    let u = word_at(a, 0);
-    let v = word_at(b, 0);
-    if u < v {
-        return true;
-    }
-    if v < u {
-        return false;
-    }
-    let w = word_at(a, 8);
-    let x = word_at(b, 8);
-    if w < x {
-        return true;
-    }
-    if x < w {
-        return false;
-    }
-    let y = word_at(a, 15);
-    let z = word_at(b, 15);
-    if y < z {
-        return true;
-    }
-    false
-}
-
-// Whether behind an origin that ends at `at` stands a good one above it. A no decides nothing.
-fn next_origin(form: Form, s: &[u8], at: usize) -> bool
-    requires { ⌜ (23 ≤ at) × (at + 26 ≤ length (now s)) ⌝ }
-    ensures { λ r. ⌜ If r (NextOrigin form (now (s .entry)) at) ⌝ }
+// Whether at `at` stands the head of an origin. A no decides nothing.
+fn origin_head(form: Form, s: &[u8], at: usize) -> bool
+    requires { ⌜ at + 26 ≤ length (now s) ⌝ }
+    ensures { λ r. ⌜ If r (OriginHead form (now (s .entry)) at) ⌝ }
 {
     if kind_of(form, s[at]) != 1 {
         return false;
@@ -74,13 +46,17 @@ fn next_origin(form: Form, s: &[u8], at: usize) -> bool
     if two_at(s, at + 1) != 23 {
         return false;
     }
-    let start = at - 23;
-    let from = at + 3;
-    let to = at + 26;
-    if !origin_ok(&s[from..to]) {
+    true
+}
+
+// Whether a body is an origin's, and above another.
+fn next_words(before: Words, body: Words) -> bool
+    ensures { λ r. ⌜ r ≡ nextWords before body ⌝ }
+{
+    if !words_ok(body) {
         return false;
     }
-    origin_below(&s[start..at], &s[from..to])
+    words_below(before, body)
 }
 
 // Behind an origin that ends at `start`, past the good ascending origins.
@@ -88,11 +64,20 @@ fn pass_origins(form: Form, s: &[u8], start: usize) -> usize
     requires { ⌜ (23 ≤ start) × Judged form (now s) start (originKey start) ⌝ }
     ensures { λ r. ⌜ Passes form (now (s .entry)) start r ⌝ }
 {
+    let begin = start - 23;
+    let mut before = words_of(&s[begin..start]);
     let mut at = start;
     while 26 <= s.len() - at {
-        if !next_origin(form, s, at) {
+        if !origin_head(form, s, at) {
             return at;
         }
+        let from = at + 3;
+        let to = at + 26;
+        let body = words_of(&s[from..to]);
+        if !next_words(before, body) {
+            return at;
+        }
+        before = body;
         at += 26;
     }
     at

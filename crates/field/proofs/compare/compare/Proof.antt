@@ -1,5 +1,5 @@
 use borrow.Author.Needs.{needs}
-use Rattle.field.proofs.Words.{Worded, words}
+use Rattle.field.proofs.Eights.{Worded, words}
 use Prim.Native.Nat.{_-_, _+_}
 use lib.ListN.{length}
 use Rattle.field.proofs.compare.compare.Statement.{statement}

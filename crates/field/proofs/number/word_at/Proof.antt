@@ -1,5 +1,5 @@
 use borrow.Author.Needs.{needs}
-use Rattle.field.proofs.Words.{word-read}
+use Rattle.field.proofs.Eights.{word-read}
 use Rattle.field.proofs.number.word_at.Statement.{statement}
 use Rattle.field.proofs.number.word_at.Tie as tie
 

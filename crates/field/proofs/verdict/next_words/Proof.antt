@@ -1,0 +1,19 @@
+use borrow.Author.Needs.{needs}
+use Rattle.field.proofs.Bodywords.{nexting}
+use Rattle.field.proofs.verdict.next_words.Statement.{statement}
+use Rattle.field.proofs.verdict.next_words.Tie as tie
+
+words-ok-requires : tie.Need-words-ok-requires
+words-ok-requires c κs = search (nexting, needs)
+
+returns : tie.Need-returns
+returns c = search (nexting, needs)
+
+words-below-requires : tie.Need-words-below-requires
+words-below-requires c κs = search (nexting, needs)
+
+returns-2 : tie.Need-returns-2
+returns-2 c = search (nexting, needs)
+
+pub next-words-spec : {M : Type 1} → statement M
+next-words-spec = tie.close (tie.spec words-ok-requires returns words-below-requires returns-2)
