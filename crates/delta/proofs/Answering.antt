@@ -1,5 +1,5 @@
 -- Laws of the three entries.
-use Prim.Native.Nat.{ℕ, _+_, _^_, _≤_, _<_}
+use Prim.Native.Nat.{ℕ, _+_, _≤_, _<_}
 use mathlib.Core.Path.{_≡_, refl, sym, ap, ap₂, _∙_}
 use mathlib.Core.List.{List, [], _∷_, map}
 use mathlib.Core.Bool.{Bool, true, false, cond}
@@ -7,10 +7,7 @@ use native.Mathlib.Omega.{arith}
 use native.Mathlib.Nat.{zero-add}
 use borrow.Author.Tests.{leb-true, leb-false, le-leb, lt-leb, eq-eqb, ne-eqb}
 use lib.Dec.{leb}
-use mir.Syntax.{w8}
-use mir.Val.{Fits}
-use lib.ListN.{length, getD}
-use lib.Seq.{sets}
+use lib.ListN.{length}
 use Rattle.order.specs.Comparison.{bytes}
 use Rattle.order.specs.Map.{All, lookup}
 use Rattle.order.proofs.Comparison.{strings}
@@ -33,7 +30,6 @@ use Rattle.payload.specs.Limit.{limit}
 use Rattle.payload.specs.Payload.{entries, encode, items, changes}
 use Rattle.payload.specs.Count.{announces, withdraws, sumOf}
 use Rattle.payload.proofs.Faithful.{faithful}
-use Rattle.payload.proofs.Sizes.{diff-length}
 use Rattle.payload.proofs.Counts.{announced-encode, withdrawn-encode}
 use Rattle.delta.specs.declared.refusal.Refusal.{Refusal}
 use Rattle.delta.specs.declared.refusal.Refusal.the-variants as refusal
@@ -56,7 +52,6 @@ use Rattle.delta.specs.Walk.{Runs, mergedAs, outputOf, wholeOut}
 use Rattle.delta.specs.Fit.{misfit, fitOf}
 use Rattle.delta.specs.Answer.{differenceOf, mergedOf, appliedOf, countsOf, outAfter, constructOf, constructOut, mergeOf, mergeOut, applyOf, applyOut}
 use Rattle.delta.proofs.Putting.{counts-path}
-use Rattle.delta.proofs.Walking.{whole-fits, whole-bytes}
 
 -- ---- what was admitted is good, and within its limit
 
@@ -189,38 +184,6 @@ pub delta-out : (d : change.Delta Bytes Bytes) (b : Bytes) → encode Delta d �
 unfolding encode
 delta-out d b e o = ap (λ (s : Bytes). outAfter Yes s o) e
 
--- ---- put_difference
-
--- a difference is never longer than both snapshots together
-difference-length : (old new : Bytes) → Inputs Snapshot old Snapshot new → ((i : ℕ) → Fits w8 (getD old i 0)) → ((i : ℕ) → Fits w8 (getD new i 0)) →
-    length (writes Delta (mergedAs Withdrawn old Announced new)) ≤ length old + length new
-unfolding differenceOf encode
-difference-length old new i o u =
-    let p : encode Snapshot (items old) ≡ old = faithful Snapshot .bytes-back old (λ n. o n .fits) (i .fine-a) in
-    let q : encode Snapshot (items new) ≡ new = faithful Snapshot .bytes-back new (λ n. u n .fits) (i .fine-b) in
-    omega (arith, diff-length (items old) (items new), ap length p, ap length q, ap length (difference-is old new i))
-
-module _ (old new : Bytes) (i : Inputs Snapshot old Snapshot new) where
-  pub difference-runs : Runs Withdrawn old Announced new
-  difference-runs = runs-of Withdrawn old Announced new i
-
-  pub difference-sum : length old + length new < 2 ^ 64
-  difference-sum = omega (arith, i .short-a, i .short-b)
-
-  module _ (o : (n : ℕ) → Fits w8 (getD old n 0)) (u : (n : ℕ) → Fits w8 (getD new n 0)) (c : Counts)
-      (e : c ≡ plusAll Delta zero (mergedAs Withdrawn old Announced new)) (out : Bytes) (h : length old + length new ≤ length out) where
-    fits-in : c .len ≤ length out
-    fits-in = rw e (omega (arith, difference-length old new i o u))
-
-    pub difference-fits : Written c ≡ outputOf Delta (mergedAs Withdrawn old Announced new) (length out)
-    difference-fits = whole-fits Delta (mergedAs Withdrawn old Announced new) c e out fits-in
-
-    pub difference-bytes : (p : Bytes) → p ≡ sets out 0 (writes Delta (mergedAs Withdrawn old Announced new)) →
-        p ≡ wholeOut Delta (mergedAs Withdrawn old Announced new) out
-    difference-bytes p q = whole-bytes Delta (mergedAs Withdrawn old Announced new) c e out p fits-in q
-
-pub ruleset differing = (difference-runs, difference-sum, difference-fits, difference-bytes)
-
 -- ---- construct
 
 module _ (old new : Bytes) (serial : Serial) (o : Bytes) (x : Admitted) (e : x ≡ admitOf Snapshot old Snapshot new) where
@@ -229,7 +192,7 @@ module _ (old new : Bytes) (serial : Serial) (o : Bytes) (x : Admitted) (e : x �
   construct-refused r d = rw (← e, d)
 
   module _ (y : x ≡ Yes) where
-    pub inputs : Inputs Snapshot old Snapshot new
+    inputs : Inputs Snapshot old Snapshot new
     inputs = admitted-inputs Snapshot old Snapshot new (sym e ∙ y)
 
     module _ (w : Output) (f : w ≡ outputOf Delta (mergedAs Withdrawn old Announced new) (length o)) where
@@ -269,7 +232,7 @@ module _ (old new o : Bytes) (x : Admitted) (e : x ≡ admitOf Snapshot old Snap
   construct-out p y q =
       rw (← e, y) (q ∙ delta-out (mergedAs Withdrawn old Announced new) (differenceOf old new) (difference-is old new (admitted-inputs Snapshot old Snapshot new (sym e ∙ y))) o)
 
-pub ruleset constructing = (inputs, construct-refused, construct-left, construct-room, construct-same, construct-made, construct-out)
+pub ruleset constructing = (construct-runs, construct-refused, construct-left, construct-room, construct-same, construct-made, construct-out)
 
 -- ---- merge
 

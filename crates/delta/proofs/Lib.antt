@@ -8,6 +8,7 @@ pub mod Entries
 pub mod Turning
 pub mod Walking
 pub mod Skipping
+pub mod Lengths
 pub mod Fitting
 pub mod Answering
 pub mod Differences

@@ -1,10 +1,11 @@
 // The difference of two snapshots.
 use crate::admit::Admitted;
 use crate::admit::admit;
+use crate::reading::Reading;
 use crate::refusal::Refusal;
 use crate::sink::Counts;
 use crate::walk::Output;
-use crate::walk::put_difference;
+use crate::walk::put_whole;
 use field::tag::Form;
 use serial::Serial;
 use serial::next;
@@ -26,7 +27,14 @@ pub fn construct(old: &[u8], new: &[u8], serial: Serial, out: &mut [u8]) -> Cons
     if let Admitted::No(r) = admit(Form::Snapshot, old, Form::Snapshot, new) {
         return Constructed::Refused(r);
     }
-    match put_difference(old, new, out) {
+    match put_whole(
+        Form::Delta,
+        Reading::Withdrawn,
+        old,
+        Reading::Announced,
+        new,
+        out,
+    ) {
         Output::NoRoom => Constructed::Refused(Refusal::NoRoom),
         Output::Written(counts) => {
             if counts.len == 0 {

@@ -17,8 +17,6 @@ ghost use mathlib.Core.Path.{_≡_};
 ghost use mathlib.Core.List.{_∷_, []};
 ghost use lib.ListN.{length, drop};
 ghost use lib.Seq.{sets};
-ghost use Rattle.field.specs.declared.tag.Form.the-variants as form;
-ghost use Rattle.delta.specs.Admission.{Inputs};
 ghost use Rattle.delta.specs.Place.{itemIn};
 ghost use Rattle.delta.specs.Reading.{readAs, Ready};
 ghost use Rattle.delta.specs.Write.{Room, plusItem, plusAll, fieldAs, writes, zero};
@@ -185,7 +183,8 @@ pub enum Output {
     Written(Counts),
 }
 
-// The merge of two runs, if out has room for all of it; else nothing is written.
+// The merge of two runs, if out has room for all of it; else nothing is written. It is never longer than both together:
+// where out is as long as that, it is written at once.
 pub(crate) fn put_whole(
     form: Form,
     ra: Reading,
@@ -197,38 +196,15 @@ pub(crate) fn put_whole(
     requires { ⌜ Runs ra (now a) rb (now b) ⌝ }
     ensures { λ r. ⌜ (r ≡ outputOf form (mergedAs ra (now (a .entry)) rb (now (b .entry))) (length (now (out .entry)))) × (now (out .exit) ≡ wholeOut form (mergedAs ra (now (a .entry)) rb (now (b .entry))) (now (out .entry))) ⌝ }
 {
+    if a.len() + b.len() <= out.len() {
+        let sum = put_merge(form, ra, a, rb, b, out);
+        return Output::Written(sum);
+    }
     let counts = measure(form, ra, a, rb, b);
     let len = counts.len;
     if out.len() < len {
         return Output::NoRoom;
     }
     put_merge(form, ra, a, rb, b, out);
-    Output::Written(counts)
-}
-
-// The difference of two good snapshots, if out has room for all of it; else nothing is written. It is never longer than
-// both together: where out is as long as that, it is written at once.
-pub(crate) fn put_difference(old: &[u8], new: &[u8], out: &mut [u8]) -> Output
-    requires { ⌜ Inputs form.Snapshot (now old) form.Snapshot (now new) ⌝ }
-    ensures { λ r. ⌜ (r ≡ outputOf form.Delta (mergedAs Reading.Withdrawn (now (old .entry)) Reading.Announced (now (new .entry))) (length (now (out .entry)))) × (now (out .exit) ≡ wholeOut form.Delta (mergedAs Reading.Withdrawn (now (old .entry)) Reading.Announced (now (new .entry))) (now (out .entry))) ⌝ }
-{
-    if out.len() < old.len() + new.len() {
-        return put_whole(
-            Form::Delta,
-            Reading::Withdrawn,
-            old,
-            Reading::Announced,
-            new,
-            out,
-        );
-    }
-    let counts = put_merge(
-        Form::Delta,
-        Reading::Withdrawn,
-        old,
-        Reading::Announced,
-        new,
-        out,
-    );
     Output::Written(counts)
 }

@@ -15,8 +15,8 @@ returns c = search (constructing, needs)
 enum-told : tie.Need-enum-told
 enum-told c = search (constructing, needs)
 
-put-difference-requires : tie.Need-put-difference-requires
-put-difference-requires c κs = search (constructing, needs)
+put-whole-requires : tie.Need-put-whole-requires
+put-whole-requires c κs = search (constructing, needs)
 
 enum-told-2 : tie.Need-enum-told-2
 enum-told-2 c = search (constructing, needs)
@@ -53,7 +53,7 @@ construct-spec =
     enum-known-r
     returns
     enum-told
-    put-difference-requires
+    put-whole-requires
     enum-told-2
     enum-known-counts
     same-length
