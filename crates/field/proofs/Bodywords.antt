@@ -15,12 +15,12 @@ use Rattle.order.specs.declared.Ordering.the-variants.{Less, Equal, Greater}
 use Rattle.order.specs.Comparison.{orElse, number, bytes}
 use Rattle.order.proofs.Comparison.{number-less, number-equal, number-greater, less-number, equal-number}
 use Rattle.field.specs.declared.words.Words.{Words}
-use Rattle.field.specs.Number.{fourAt, wordAt}
+use Rattle.field.specs.Number.{fourAt, wordAt, sevenAt}
 use Rattle.field.specs.Origin.{family, prefixLength, maximumLength, address, clean, goodPrefix, goodOrigin}
 use Rattle.field.specs.Verdict.{isLess}
 use Rattle.field.specs.Words.{wordsOf, cleanHalves, familyIn, prefixIn, maximumIn, highIn, lowIn, boundPast, goodWords, belowWords, nextWords}
 use Rattle.field.proofs.Sizes.{both}
-use Rattle.field.proofs.Eights.{word-less, word-same, word-upto}
+use Rattle.field.proofs.Eights.{word-less, word-same, seven-less}
 use Rattle.field.proofs.Masks.{halves}
 
 -- ---- the functions of words
@@ -133,16 +133,16 @@ module _ (b : List ℕ) (o : (i : ℕ) → Fits w8 (getD b i 0)) where
   family-is = top 0
 
   prefix-is : prefixIn (wordsOf b) ≡ prefixLength b
-  unfolding wordAt
-  prefix-is = omega (arith, byte 15, byte 16, byte 17, byte 18, byte 19, byte 20, byte 21, byte 22)
+  unfolding sevenAt
+  prefix-is = omega (arith, byte 16, byte 17, byte 18, byte 19, byte 20, byte 21, byte 22)
 
   maximum-is : maximumIn (wordsOf b) ≡ maximumLength b
-  unfolding wordAt
-  maximum-is = omega (arith, byte 15, byte 16, byte 17, byte 18, byte 19, byte 20, byte 21, byte 22)
+  unfolding sevenAt
+  maximum-is = omega (arith, byte 16, byte 17, byte 18, byte 19, byte 20, byte 21, byte 22)
 
-  sixteen : wordAt b 15 / 281_474_976_710_656 % 256 ≡ getD b 16 0
-  unfolding wordAt
-  sixteen = omega (arith, byte 15, byte 16, byte 17, byte 18, byte 19, byte 20, byte 21, byte 22)
+  sixteen : sevenAt b 16 / 281_474_976_710_656 % 256 ≡ getD b 16 0
+  unfolding sevenAt
+  sixteen = omega (arith, byte 16, byte 17, byte 18, byte 19, byte 20, byte 21, byte 22)
 
   -- all but the first byte, and one behind them
   along : (i : ℕ) → wordAt b i % 72_057_594_037_927_936 * 256 + getD b (i + 8) 0 ≡ wordAt b (i + 1)
@@ -180,21 +180,21 @@ module _ (b : List ℕ) (o : (i : ℕ) → Fits w8 (getD b i 0)) where
 module _ (a b : List ℕ) (o : (i : ℕ) → Fits w8 (getD a i 0)) (p : (i : ℕ) → Fits w8 (getD b i 0)) (m : length a ≡ 23) (n : length b ≡ 23) where
   pub words-less : belowWords (wordsOf a) (wordsOf b) ≡ true → bytes a b ≡ Less
   unfolding belowWords
-  words-less h = go (number (wordAt a 0) (wordAt b 0)) (number (wordAt a 8) (wordAt b 8)) (number (wordAt a 15) (wordAt b 15)) refl refl refl h
+  words-less h = go (number (wordAt a 0) (wordAt b 0)) (number (wordAt a 8) (wordAt b 8)) (number (sevenAt a 16) (sevenAt b 16)) refl refl refl h
     where
       first : number (wordAt a 0) (wordAt b 0) ≡ Equal → bytes a b ≡ bytes (drop 8 a) (drop 8 b)
       first e = word-same a b o p 0 (omega arith) (omega arith) (equal-number (wordAt a 0) (wordAt b 0) e)
 
-      second : number (wordAt a 8) (wordAt b 8) ≡ Equal → bytes (drop 8 a) (drop 8 b) ≡ bytes (drop 15 a) (drop 15 b)
-      second e = word-upto a b o p 8 (omega arith) (omega arith) (equal-number (wordAt a 8) (wordAt b 8) e) 7 (omega arith)
+      second : number (wordAt a 8) (wordAt b 8) ≡ Equal → bytes (drop 8 a) (drop 8 b) ≡ bytes (drop 16 a) (drop 16 b)
+      second e = word-same a b o p 8 (omega arith) (omega arith) (equal-number (wordAt a 8) (wordAt b 8) e)
 
-      go : (x y z : Ordering) → number (wordAt a 0) (wordAt b 0) ≡ x → number (wordAt a 8) (wordAt b 8) ≡ y → number (wordAt a 15) (wordAt b 15) ≡ z
+      go : (x y z : Ordering) → number (wordAt a 0) (wordAt b 0) ≡ x → number (wordAt a 8) (wordAt b 8) ≡ y → number (sevenAt a 16) (sevenAt b 16) ≡ z
           → isLess (orElse x (orElse y z)) ≡ true → bytes a b ≡ Less
       go Less y z d e f g = word-less a b o p 0 (omega arith) (omega arith) (less-number (wordAt a 0) (wordAt b 0) d)
       go Greater y z d e f g = absurd (false≢true g)
       go Equal Less z d e f g = first d ∙ word-less a b o p 8 (omega arith) (omega arith) (less-number (wordAt a 8) (wordAt b 8) e)
       go Equal Greater z d e f g = absurd (false≢true g)
-      go Equal Equal Less d e f g = first d ∙ second e ∙ word-less a b o p 15 (omega arith) (omega arith) (less-number (wordAt a 15) (wordAt b 15) f)
+      go Equal Equal Less d e f g = first d ∙ second e ∙ seven-less a b o p 16 (omega arith) (omega arith) (less-number (sevenAt a 16) (sevenAt b 16) f)
       go Equal Equal Equal d e f g = absurd (false≢true g)
       go Equal Equal Greater d e f g = absurd (false≢true g)
 
@@ -206,6 +206,6 @@ next-is a b o p m n h =
     let q = both (goodWords (wordsOf b)) _ h in
     (words-good b p n (q .0), words-less a b o p m n (q .1))
 
-pub words-read : (b : List ℕ) (x y z : ℕ) → x ≡ wordAt b 0 → y ≡ wordAt b 8 → z ≡ wordAt b 15
+pub words-read : (b : List ℕ) (x y z : ℕ) → x ≡ wordAt b 0 → y ≡ wordAt b 8 → z ≡ sevenAt b 16
     → _≡_ {A = Words} (record { first = x; second = y; third = z }) (wordsOf b)
 words-read b x y z p q r = λ i. record { first = p i; second = q i; third = r i }

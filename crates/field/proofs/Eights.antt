@@ -11,7 +11,7 @@ use Rattle.order.specs.declared.Ordering.{Ordering}
 use Rattle.order.specs.declared.Ordering.the-variants.{Less, Equal, Greater}
 use Rattle.order.specs.Comparison.{bytes}
 use Rattle.order.proofs.Scan.{scan-same, scan-less, scan-greater, scan-both, scan-left, scan-right}
-use Rattle.field.specs.Number.{fourAt, wordAt}
+use Rattle.field.specs.Number.{fourAt, sevenAt, wordAt}
 
 -- each element is a byte
 abbrev Octets : List ℕ → Type 0
@@ -30,6 +30,10 @@ word-digits s i =
     let c : i + 4 + 2 ≡ i + 6 = omega arith in
     let d : i + 4 + 3 ≡ i + 7 = omega arith in
     rw (a, b, c, d) (omega arith)
+
+seven-digits : (s : List ℕ) (i : ℕ) → sevenAt s i ≡ digits 7 s i
+unfolding sevenAt digits
+seven-digits s i = let a : i + 0 ≡ i = omega arith in rw a (omega arith)
 
 byte : (s : List ℕ) → Octets s → (i : ℕ) → getD s i 0 < 256
 byte s o i = o i .fits
@@ -66,6 +70,9 @@ module _ (a b : List ℕ) (o : Octets a) (p : Octets b) (i : ℕ) where
         | yes l ↦ digits-greater n (omega arith) (omega arith) l
         | no l ↦ digits-same n (omega arith) (omega arith) (omega arith) ∙ scan-greater a b (i + n) (omega arith) (omega arith) (omega arith)
       ]
+
+  pub seven-less : i + 7 ≤ length a → i + 7 ≤ length b → sevenAt a i < sevenAt b i → bytes (drop i a) (drop i b) ≡ Less
+  seven-less h k l = digits-less 7 h k (rw (seven-digits a i, seven-digits b i) at l)
 
   module _ (h : i + 8 ≤ length a) (k : i + 8 ≤ length b) where
     pub word-less : wordAt a i < wordAt b i → bytes (drop i a) (drop i b) ≡ Less
@@ -169,5 +176,10 @@ four-read s i a b c d p q r t = omega arith
 pub word-read : (s : List ℕ) (i x y : ℕ) → x ≡ fourAt s i → y ≡ fourAt s (i + 4) → x * 4_294_967_296 + y ≡ wordAt s i
 unfolding wordAt
 word-read s i x y p q = cc
+
+pub seven-read : (s : List ℕ) (i x a b c : ℕ) → x ≡ fourAt s i → a ≡ getD s (i + 4) 0 → b ≡ getD s (i + 5) 0 → c ≡ getD s (i + 6) 0
+    → x * 16_777_216 + (a * 65_536 + b * 256 + c) ≡ sevenAt s i
+unfolding sevenAt
+seven-read s i x a b c p q r t = cc
 
 pub ruleset words = (worded-start, worded-left, worded-right, last-left, last-right, worded-less, worded-greater, worded-more, last-less, last-greater, end-less, end-greater, end-equal)

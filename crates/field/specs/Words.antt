@@ -1,15 +1,15 @@
--- The body of an origin as three words of eight bytes: at 0, at 8 and, with a byte again, at 15.
+-- The body of an origin as three words: the eight bytes at 0, the eight at 8 and the seven at 16.
 use Prim.Native.Nat.{ℕ, _+_, _-_, _*_, _/_, _%_, _^_}
 use mathlib.Core.List.{List}
 use mathlib.Core.Bool.{Bool, cond, _&&_}
 use lib.Dec.{leb, ltb, eqb}
 use Rattle.order.specs.Comparison.{orElse, number}
 use Rattle.field.specs.declared.words.Words.{Words}
-use Rattle.field.specs.Number.{wordAt}
+use Rattle.field.specs.Number.{wordAt, sevenAt}
 use Rattle.field.specs.Verdict.{isLess}
 
 abbrev pub wordsOf : List ℕ → Words
-wordsOf b = record { first = wordAt b 0; second = wordAt b 8; third = wordAt b 15 }
+wordsOf b = record { first = wordAt b 0; second = wordAt b 8; third = sevenAt b 16 }
 
 -- the bits past a prefix of p bits of an address are zero, by its halves
 unfoldable pub cleanHalves : ℕ → ℕ → ℕ → Bool

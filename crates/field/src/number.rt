@@ -5,7 +5,7 @@ ghost use mathlib.Core.Path.{_≡_};
 ghost use Prim.Native.Nat.{_+_, _≤_, _<_, min};
 ghost use lib.ListN.{length};
 ghost use Rattle.order.specs.Comparison.{number};
-ghost use Rattle.field.specs.Number.{twoAt, fourAt, wordAt, asnAt};
+ghost use Rattle.field.specs.Number.{twoAt, fourAt, sevenAt, wordAt, asnAt};
 
 // A byte as a wider number.
 pub fn wide(x: u8) -> usize
@@ -53,6 +53,18 @@ pub fn word_at(s: &[u8], i: usize) -> usize
     ensures { λ r. ⌜ r ≡ wordAt (now (s .entry)) i ⌝ }
 {
     four_at(s, i) * 4294967296 + four_at(s, i + 4)
+}
+
+// The seven bytes at i as a number.
+pub(crate) fn seven_at(s: &[u8], i: usize) -> usize
+    requires { ⌜ i + 7 ≤ length (now s) ⌝ }
+    ensures { λ r. ⌜ r ≡ sevenAt (now (s .entry)) i ⌝ }
+{
+    let high = four_at(s, i);
+    let a = wide(s[i + 4]);
+    let b = wide(s[i + 5]);
+    let c = wide(s[i + 6]);
+    high * 16777216 + (a * 65536 + b * 256 + c)
 }
 
 // The four bytes at i as an AS number.

@@ -1,11 +1,12 @@
-// The body of an origin as three words of eight bytes. A byte that is read singly beside a word over it would keep the
+// The body of an origin as three words. A byte that is read singly beside a word over it would keep the
 // word from being one load, so all that is asked of the body is asked of the words.
+use crate::number::seven_at;
 use crate::number::word_at;
 ghost use mathlib.Core.Path.{_≡_};
 ghost use lib.ListN.{length};
 ghost use Rattle.field.specs.Words.{wordsOf, cleanHalves, boundPast, goodWords, belowWords};
 
-// The words at 0, at 8 and, with a byte again, at 15.
+// The eight bytes at 0, the eight at 8 and the seven at 16. (No byte lies in two of them: that too would break a load up.)
 pub struct Words {
     pub first: usize,
     pub second: usize,
@@ -19,7 +20,7 @@ pub(crate) fn words_of(body: &[u8]) -> Words
     Words {
         first: word_at(body, 0),
         second: word_at(body, 8),
-        third: word_at(body, 15),
+        third: seven_at(body, 16),
     }
 }
 

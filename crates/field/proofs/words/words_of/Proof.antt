@@ -9,11 +9,11 @@ word-at-requires c κs = search (words-read, needs)
 word-at-requires-2 : tie.Need-word-at-requires-2
 word-at-requires-2 c κs = search (words-read, needs)
 
-word-at-requires-3 : tie.Need-word-at-requires-3
-word-at-requires-3 c κs = search (words-read, needs)
+seven-at-requires : tie.Need-seven-at-requires
+seven-at-requires c κs = search (words-read, needs)
 
 returns : tie.Need-returns
 returns c = search (words-read, needs)
 
 pub words-of-spec : {M : Type 1} → statement M
-words-of-spec = tie.close (tie.spec word-at-requires word-at-requires-2 word-at-requires-3 returns)
+words-of-spec = tie.close (tie.spec word-at-requires word-at-requires-2 seven-at-requires returns)
