@@ -1,7 +1,7 @@
 -- Laws of the least key: of one run, and of all.
 use Prim.Native.Nat.{ℕ, suc, _+_, _-_, _≤_, _<_}
-use mathlib.Core.Path.{_≡_, refl, sym}
-use mathlib.Core.List.{List, [], _∷_, foldl}
+use mathlib.Core.Path.{_≡_, sym}
+use mathlib.Core.List.{List, [], _∷_}
 use mathlib.Core.Option.{Option, none, some}
 use native.Mathlib.Omega.{arith}
 use native.Mathlib.Numerals.{add-one}
@@ -9,17 +9,17 @@ use lib.ListN.{getD}
 use Rattle.order.specs.declared.Ordering.{Ordering}
 use Rattle.order.specs.declared.Ordering.the-variants.{Less, Equal, Greater}
 use Rattle.order.specs.Comparison.{bytes}
-use Rattle.order.specs.Many.{lower, least}
+use Rattle.order.specs.Many.{lower}
 use Rattle.field.specs.declared.key.Key.{Key}
 use Rattle.field.specs.Places.{keyIn}
 use Rattle.payload.specs.Content.{Bytes}
 use Rattle.delta.specs.declared.place.Entry.{Entry}
 use Rattle.delta.specs.declared.reading.Read.{Read}
 use Rattle.delta.specs.declared.reading.Read.the-variants.{End, One}
-use Rattle.delta.specs.Place.{itemIn}
+use Rattle.delta.specs.Place.{itemIn, KeyIn}
 use Rattle.history.specs.declared.least.Found.{Found}
 use Rattle.history.specs.declared.least.Found.the-variants.{Nothing, At}
-use Rattle.history.specs.Cursor.{D, run, runsN, runs, Stands, Within, EntryFits, Heads, keyFound, FoundIn, Below, Least}
+use Rattle.history.specs.Cursor.{D, run, runsN, Stands, Within, EntryFits, Heads, keyFound, FoundIn, Below}
 
 -- ---- what a cursor stands at
 
@@ -61,7 +61,13 @@ module _ (s : Bytes) (best : Found) (p e : ℕ) (r : Read) (h : Heads s p e r) w
       pub below-greater : o ≡ Greater → Below s best p e (At (x .key))
       below-greater d = record { inside = new; key = rw (head-is s p e r h x q, b, ← c, d) }
 
-pub ruleset lowering = (below-end, below-first, below-less, below-equal, below-greater)
+pub below-key : (s : Bytes) (best : Found) (k : Key) → FoundIn s best → best ≡ At k → KeyIn s k
+below-key s best k f e = rw e at (f .fits)
+
+pub below-head : (s : Bytes) (p e : ℕ) (r : Read) → Heads s p e r → (x : Entry) → r ≡ One x → KeyIn s (x .key)
+below-head s p e r h x q = head-fits s p e r h x q .key
+
+pub ruleset lowering = (below-key, below-head, below-end, below-first, below-less, below-equal, below-greater)
 
 -- ---- the runs, one by one
 
@@ -76,33 +82,3 @@ module _ (s : Bytes) (at ends : List ℕ) where
 
   pub one-stands : (n r : ℕ) → Within s at ends n → r < n → Stands s (getD at r 0) (getD ends r 0)
   one-stands n r w h = w .each r h
-
--- ---- least: the least of what is found and what is left
-
-pub record Leasting (s : Bytes) (at ends : List ℕ) (from n : ℕ) (best : Found) (r : ℕ) : Type 0 where
-  pub within : Within s at ends n
-  pub inside : FoundIn s best
-  pub left : foldl (lower bytes) (keyFound s best) (runsN s at ends r (n - r)) ≡ least bytes (runs s at ends from n)
-
-pub least-start : (s : Bytes) (at ends : List ℕ) (from n : ℕ) → Within s at ends n → Leasting s at ends from n Nothing from
-least-start s at ends from n w = record { within = w; inside = record { fits = tt }; left = refl }
-
-module _ (s : Bytes) (at ends : List ℕ) (from n : ℕ) (best : Found) (r : ℕ) (i : Leasting s at ends from n best r) where
-  pub least-stands : r < n → Stands s (getD at r 0) (getD ends r 0)
-  least-stands h = i .within .each r h
-
-  module _ (h : r < n) (f : Found) (u : Below s best (getD at r 0) (getD ends r 0) f) where
-    again : (best′ : Found) → FoundIn s best′ → keyFound s best′ ≡ lower bytes (keyFound s best) (run s (getD at r 0) (getD ends r 0)) →
-        Leasting s at ends from n best′ (r + 1)
-    again best′ g e = record { within = i .within; inside = g; left = rw e (rw (runs-cons s at ends r n h) at (i .left)) }
-
-    pub least-old : f ≡ Nothing → Leasting s at ends from n best (r + 1)
-    least-old q = again best (i .inside) (rw q at (u .key))
-
-    pub least-new : (k : Key) → f ≡ At k → Leasting s at ends from n (At k) (r + 1)
-    least-new k q = again (At k) (rw q at (u .inside)) (rw q at (u .key))
-
-  pub least-done : n ≤ r → Least s at ends from n best
-  least-done h = record { inside = i .inside; key = rw (runs-nil s at ends r n h) at (i .left) }
-
-pub ruleset leasting = (least-start, least-stands, least-old, least-new, least-done)

@@ -28,6 +28,7 @@ use Rattle.history.specs.declared.least.Found.{Found}
 use Rattle.history.specs.declared.least.Found.the-variants as found
 use Rattle.history.specs.declared.next.Step.the-variants as step
 use Rattle.history.specs.Cursor.{D, runs, leftOf, itemsIn, itemsLeft, Within, Walks, Least, Gathered, NextIs}
+use Rattle.history.specs.Front.{Lowest, Fronted, line, Looks, LeastBy, Meets}
 
 -- ---- past their least key the runs have fewer items
 
@@ -72,7 +73,10 @@ least-falls k ds e = ⊎-elim (λ h. absurd (none≢some {o = none} refl h)) (λ
 
 -- ---- next: what is left is what there was
 
-pub record Stepping (s : Bytes) (at₀ ends : List ℕ) (from n : ℕ) (at : List ℕ) : Type 0 where
+pub record Stepping (s : Bytes) (at₀ ends : List ℕ) (f₀ : List ℕ) (from n : ℕ) (at f : List ℕ) : Type 0 where
+  pub fronted : Fronted s at ends from n f
+  pub long : length f ≡ length f₀
+  pub long-f : length f ≡ 72
   pub walks : Walks s at ends from n
   pub same-long : length at ≡ length at₀
   pub left : leftOf s at₀ ends from n ≡ leftOf s at ends from n
@@ -82,22 +86,34 @@ pub record Stepping (s : Bytes) (at₀ ends : List ℕ) (from n : ℕ) (at : Lis
 abbrev pub measure : Bytes → List ℕ → List ℕ → ℕ → ℕ → ℕ
 measure = itemsLeft
 
-pub step-start : (s : Bytes) (at ends : List ℕ) (from n : ℕ) → Walks s at ends from n → Stepping s at ends from n at
-step-start s at ends from n w = record { walks = w; same-long = refl; left = refl; fewer = omega arith }
+pub step-start : (s : Bytes) (at ends f : List ℕ) (from n : ℕ) → Walks s at ends from n → Fronted s at ends from n f → Stepping s at ends f from n at f
+step-start s at ends f from n w u = record { fronted = u; long = refl; long-f = line u .blocks .long; walks = w; same-long = refl; left = refl; fewer = omega arith }
 
-module _ (s : Bytes) (at₀ ends : List ℕ) (from n : ℕ) (at : List ℕ) (i : Stepping s at₀ ends from n at) where
+module _ (s : Bytes) (at₀ ends f₀ : List ℕ) (from n : ℕ) (at f : List ℕ) (i : Stepping s at₀ ends f₀ from n at f) where
+  pub step-fronted : Fronted s at ends from n f
+  step-fronted = i .fronted
+
   pub step-within : Within s at ends n
   step-within = i .walks .within
 
-  module _ (f : Found) (l : Least s at ends from n f) where
-    pub step-end : f ≡ found.Nothing → NextIs s at₀ at ends from n step.End
+  pub step-looks : (low : ℕ) → Lowest f 64 72 low → Looks s at ends from n f low
+  step-looks low l = record { within = i .walks .within; fronted = i .fronted; lowest = l }
+
+  module _ (low : ℕ) (b : Found) (lb : LeastBy s at ends from n low b) where
+    l : Least s at ends from n b
+    l = lb .least
+
+    pub step-end : b ≡ found.Nothing → NextIs s at₀ at ends from n step.End
     step-end e = record {
       walks = i .walks;
       fits = tt;
       is = i .left ∙ least-none strings (mergeAt bytes) refl (runs s at ends from n) (sym (rw e at (l .key)));
     }
 
-    module _ (k : Key) (e : f ≡ found.At k) where
+    module _ (k : Key) (e : b ≡ found.At k) where
+      pub step-meets : Meets s at ends from n f low k
+      step-meets = record { key = rw e at (lb .least .inside .fits); within = i .walks .within; fronted = i .fronted; front = sym (rw e at (lb .front)) }
+
       pub step-key : KeyIn s k
       step-key = rw e at (l .inside .fits)
 
@@ -116,8 +132,11 @@ module _ (s : Bytes) (at₀ ends : List ℕ) (from n : ℕ) (at : List ℕ) (i :
             i .left ∙ least-step strings (mergeAt bytes) refl (keyIn s k) (runs s at ends from n) key-is (i .walks .up)
             ∙ rw (g .holds .is, g .gone)
 
-        pub step-again : h ≡ Nothing → Stepping s at₀ ends from n at′
-        step-again q = record {
+        pub step-again : h ≡ Nothing → (f′ : List ℕ) → Fronted s at′ ends from n f′ → Stepping s at₀ ends f₀ from n at′ f′
+        step-again q f′ u = record {
+          fronted = u;
+          long = line u .blocks .long ∙ sym (i .long-f) ∙ i .long;
+          long-f = line u .blocks .long;
           walks = walks′;
           same-long = g .within .long ∙ sym (i .walks .within .long) ∙ i .same-long;
           left = rw q at emits;
@@ -131,4 +150,4 @@ module _ (s : Bytes) (at₀ ends : List ℕ) (from n : ℕ) (at : List ℕ) (i :
           is = rw q at emits;
         }
 
-pub ruleset stepping = (step-start, step-within, step-end, step-key, step-less, step-again, step-item)
+pub ruleset stepping = (step-start, step-fronted, step-within, step-looks, step-meets, step-end, step-key, step-less, step-again, step-item)

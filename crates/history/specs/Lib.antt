@@ -3,4 +3,5 @@ pub mod Check
 pub mod Push
 pub mod Stage
 pub mod Cursor
+pub mod Front
 pub mod Place

@@ -2,10 +2,12 @@
 use crate::gather::gather;
 use crate::least::Found;
 use crate::least::least;
+use crate::lows::of_eight;
 use delta::place::Act;
 use delta::place::Held;
 use field::key::Key;
 ghost use Rattle.history.specs.Cursor.{Walks, NextIs};
+ghost use Rattle.history.specs.Front.{Fronted};
 
 // An item, by where its key and its values lie in the store.
 pub enum Step {
@@ -18,17 +20,19 @@ pub(crate) fn next(
     store: &[u8],
     at: &mut [usize; 64],
     ends: &[usize; 64],
+    f: &mut [u64; 72],
     from: usize,
     n: usize,
 ) -> Step
-    requires { ⌜ Walks (now store) (now at) (now ends) from n ⌝ }
-    ensures { λ r. ⌜ NextIs (now (store .entry)) (now (at .entry)) (now (at .exit)) (now (ends .entry)) from n r ⌝ }
+    requires { ⌜ Walks (now store) (now at) (now ends) from n × Fronted (now store) (now at) (now ends) from n (now f) ⌝ }
+    ensures { λ r. ⌜ NextIs (now (store .entry)) (now (at .entry)) (now (at .exit)) (now (ends .entry)) from n r × Fronted (now (store .entry)) (now (at .exit)) (now (ends .entry)) from n (now (f .exit)) ⌝ }
 {
     loop {
-        let Found::At(key) = least(store, at, ends, from, n) else {
+        let low = of_eight(f, 64);
+        let Found::At(key) = least(store, at, ends, f, low, from, n) else {
             return Step::End;
         };
-        let held = gather(store, at, ends, from, n, key);
+        let held = gather(store, at, ends, f, low, from, n, key);
         if let Held::Is(act) = held {
             return Step::Item(key, act);
         }

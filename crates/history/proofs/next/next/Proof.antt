@@ -1,18 +1,21 @@
 use borrow.Author.Needs.{needs}
-use Rattle.history.proofs.Stepping.{Stepping, measure, stepping}
+use Rattle.history.proofs.Stepping.{Stepping, measure, stepping, step-meets}
 use Prim.Native.Nat.{_-_, _+_}
 use lib.ListN.{length}
 use Rattle.history.proofs.next.next.Statement.{statement}
 use Rattle.history.proofs.next.next.Tie as tie
 
 abbrev Inv-loop : tie.InvT-loop
-Inv-loop store at₀ ends from n at = Stepping store at₀ ends from n at
+Inv-loop store at₀ ends f₀ from n at f = Stepping store at₀ ends f₀ from n at f
 
 abbrev μ-loop : tie.MeasureT-loop
-μ-loop store at₀ ends from n at = measure store at ends from n
+μ-loop store at₀ ends f₀ from n at f = measure store at ends from n
 
 loop-holds : tie.Need-loop-holds Inv-loop μ-loop
 loop-holds c = search (stepping, needs)
+
+of-eight-requires : tie.Need-of-eight-requires Inv-loop μ-loop
+of-eight-requires c κs = search (stepping, needs)
 
 least-requires : tie.Need-least-requires Inv-loop μ-loop
 least-requires c κs = search (stepping, needs)
@@ -27,7 +30,8 @@ returns : tie.Need-returns Inv-loop μ-loop
 returns c = search (stepping, needs)
 
 gather-requires : tie.Need-gather-requires Inv-loop μ-loop
-gather-requires c κs = search (stepping, needs)
+gather-requires c κs =
+    step-meets _ _ _ _ _ _ _ _ (c .before .before .before .before .before .before .before .before .before .before .loop .inv) _ _ (c .before .before .before .before .before .least .ensures) _ (search needs)
 
 enum-known-held : tie.Need-enum-known-held Inv-loop μ-loop
 enum-known-held c = search (stepping, needs)
@@ -51,6 +55,7 @@ next-spec =
     Inv-loop
     μ-loop
     loop-holds
+    of-eight-requires
     least-requires
     enum-known-key
     enum-told
