@@ -1,12 +1,3 @@
-pub mod Standing
-pub mod Lowering
-pub mod Fronting
-pub mod Ranking
-pub mod Eights
-pub mod Lining
-pub mod Leasting
-pub mod Gathering
-pub mod Stepping
 pub mod Sizing
 pub mod Putting
 pub mod Placing

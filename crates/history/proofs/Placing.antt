@@ -20,18 +20,18 @@ use Rattle.field.proofs.Walk.{good-start}
 use Rattle.payload.specs.Content.{Bytes, entryOf}
 use Rattle.payload.specs.Payload.{entries, changes}
 use Rattle.payload.proofs.Faithful.{faithful}
-use Rattle.delta.specs.declared.walk.Output.{Output}
-use Rattle.delta.specs.Write.{writes}
-use Rattle.delta.specs.Walk.{outputOf, wholeOut}
-use Rattle.delta.proofs.Places.{drop-take}
+use Rattle.walk.specs.declared.walk.Output.{Output}
+use Rattle.item.specs.Write.{writes}
+use Rattle.walk.specs.Walk.{outputOf, wholeOut}
+use Rattle.item.proofs.Places.{drop-take}
 use Rattle.history.specs.declared.place.Places.{Places}
 use Rattle.past.specs.Store.{total, cuts}
-use Rattle.history.specs.Cursor.{D, run, runsN, runs, leftOf, itemsIn, itemsLeft, Stands, Bounded}
+use Rattle.cursors.specs.Cursor.{D, run, runsN, runs, leftOf, itemsIn, itemsLeft, Stands, Bounded}
 use Rattle.history.specs.Place.{Summed, Placed, IsFine, Stored, lastMerged}
 use Rattle.past.proofs.Lists.{all-map}
 use Rattle.past.proofs.Store.{cuts-length}
 use Rattle.history.specs.Push.{between}
-use Rattle.history.proofs.Fronting.{drop-bytes}
+use Rattle.cursors.proofs.Fronting.{drop-bytes}
 use Rattle.history.proofs.Sizing.{merged-size}
 
 -- ---- sums

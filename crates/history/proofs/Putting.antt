@@ -8,15 +8,15 @@ use lib.Seq.{sets, length-sets}
 use Rattle.field.specs.declared.tag.Form.the-variants.{Delta}
 use Rattle.field.specs.declared.key.Key.{Key}
 use Rattle.payload.specs.Content.{Bytes}
-use Rattle.delta.specs.declared.place.Act.{Act}
-use Rattle.delta.specs.declared.sink.Counts.{Counts}
-use Rattle.delta.specs.Place.{changeIn, itemIn, ActFits, KeyIn}
-use Rattle.delta.specs.Write.{fieldAs, writes, plusItem, plusAll, zero, Room}
-use Rattle.delta.proofs.Walking.{Left-over, none-counts, none-bytes, left-one, one-small, announces-one, withdraws-one, whole-long, whole-long-bytes, whole-fits, whole-bytes}
-use Rattle.history.specs.declared.next.Step.{Step}
-use Rattle.history.specs.declared.next.Step.the-variants.{End, Item}
-use Rattle.history.specs.Cursor.{leftOf, itemsLeft, Within, Walks, ItemFits, NextIs, Bounded}
-use Rattle.history.specs.Front.{Fronted, line}
+use Rattle.item.specs.declared.place.Act.{Act}
+use Rattle.item.specs.declared.sink.Counts.{Counts}
+use Rattle.item.specs.Place.{changeIn, itemIn, ActFits, KeyIn}
+use Rattle.item.specs.Write.{fieldAs, writes, plusItem, plusAll, zero, Room}
+use Rattle.walk.proofs.Walking.{Left-over, none-counts, none-bytes, left-one, one-small, announces-one, withdraws-one, whole-long, whole-long-bytes, whole-fits, whole-bytes}
+use Rattle.cursors.specs.declared.next.Step.{Step}
+use Rattle.cursors.specs.declared.next.Step.the-variants.{End, Item}
+use Rattle.cursors.specs.Cursor.{leftOf, itemsLeft, Within, Walks, ItemFits, NextIs, Bounded}
+use Rattle.cursors.specs.Front.{Fronted, line}
 use Rattle.history.proofs.Sizing.{sure-fits, sure-bytes}
 
 -- what was written, with what is left, is the whole; each item that is left counts for at most 40,000 bytes

@@ -21,15 +21,15 @@ use Rattle.field.specs.Cells as run
 use Rattle.payload.specs.Content.{Bytes, valuesFor}
 use Rattle.payload.specs.Payload.{changes, encode}
 use Rattle.payload.proofs.Faithful.{faithful}
-use Rattle.delta.specs.declared.sink.Counts.{Counts}
-use Rattle.delta.specs.declared.walk.Output.the-variants.{Written}
-use Rattle.delta.specs.Write.{writes, plusAll, zero}
-use Rattle.delta.specs.Walk.{outputOf, wholeOut}
-use Rattle.delta.proofs.Walking.{whole-fits, whole-bytes}
+use Rattle.item.specs.declared.sink.Counts.{Counts}
+use Rattle.walk.specs.declared.walk.Output.the-variants.{Written}
+use Rattle.item.specs.Write.{writes, plusAll, zero}
+use Rattle.walk.specs.Walk.{outputOf, wholeOut}
+use Rattle.walk.proofs.Walking.{whole-fits, whole-bytes}
 use Rattle.past.specs.Store.{total, cuts}
-use Rattle.history.specs.Cursor.{D}
+use Rattle.cursors.specs.Cursor.{D}
 use Rattle.history.specs.Place.{IsFine}
-use Rattle.history.proofs.Fronting.{drop-bytes, take-bytes}
+use Rattle.cursors.proofs.Fronting.{drop-bytes, take-bytes}
 
 -- ---- one key
 

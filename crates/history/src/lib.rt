@@ -1,19 +1,11 @@
 // The history of a server's snapshots and what it serves.
 pub mod create;
-pub mod cursor;
-pub mod front;
-pub mod fronts;
 pub mod full;
-pub mod gather;
-pub mod least;
-pub mod lows;
 pub mod merged;
-pub mod next;
 pub mod notify;
 pub mod place;
 pub mod push;
 pub mod query;
-pub mod rank;
 pub mod stores;
 pub mod update;
 pub mod well_formed;

@@ -1,23 +1,23 @@
 // The last deltas merged and written: measured first unless they surely fit, so that nothing is written where not all
 // of it fits.
-use crate::fronts::line_up;
-use crate::next::Step;
-use crate::next::next;
 use crate::place::Places;
 use crate::place::place_all;
 use crate::push::sum_lengths;
-use delta::sink::Counts;
-use delta::sink::put_item;
-use delta::walk::Output;
+use cursors::fronts::line_up;
+use cursors::next::Step;
+use cursors::next::next;
 use field::tag::Form;
+use item::sink::Counts;
+use item::sink::put_item;
+use walk::walk::Output;
 ghost use mathlib.Core.Path.{_≡_};
 ghost use Prim.Native.Nat.{_≤_};
 ghost use lib.ListN.{length};
 ghost use lib.Seq.{sets};
 ghost use Rattle.field.specs.declared.tag.Form.the-variants.{Delta};
-ghost use Rattle.delta.specs.Write.{plusAll, writes, zero};
-ghost use Rattle.delta.specs.Walk.{outputOf, wholeOut};
-ghost use Rattle.history.specs.Cursor.{Bounded, leftOf};
+ghost use Rattle.item.specs.Write.{plusAll, writes, zero};
+ghost use Rattle.walk.specs.Walk.{outputOf, wholeOut};
+ghost use Rattle.cursors.specs.Cursor.{Bounded, leftOf};
 ghost use Rattle.history.specs.Place.{Stored, lastMerged};
 
 // The merge of the runs from `from` up to n, as far as out has room; its counts whether it has room or not.

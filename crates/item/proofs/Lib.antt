@@ -1,0 +1,6 @@
+pub mod Places
+pub mod Readings
+pub mod Entries
+pub mod Tabling
+pub mod Sinking
+pub mod Putting

@@ -1,0 +1,5 @@
+pub mod Turning
+pub mod Walking
+pub mod Skipping
+pub mod Lengths
+pub mod Fitting

@@ -1,0 +1,6 @@
+-- what `apply` answers of an item that cannot be applied
+pub mod Fit
+-- what the contracts of inner functions say
+pub mod Turn
+pub mod Walk
+pub mod Skip

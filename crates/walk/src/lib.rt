@@ -1,0 +1,5 @@
+// The walk over two runs of fields, for difference, merge and application alike.
+pub mod fit;
+pub mod skip;
+pub mod turn;
+pub mod walk;
