@@ -2,5 +2,6 @@ pub mod Places
 pub mod Readings
 pub mod Entries
 pub mod Tabling
+pub mod Copying
 pub mod Sinking
 pub mod Putting

@@ -1,3 +1,4 @@
 pub mod Place
 pub mod Reading
+pub mod Copy
 pub mod Write

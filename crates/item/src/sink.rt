@@ -1,8 +1,8 @@
 // Writing into a lent slice: what has no room is counted and not written, so that one loop measures and writes.
+use crate::copy::copy;
 use crate::place::Act;
 use crate::place::Part;
 use field::key::Key;
-use field::number::lower;
 use field::tag::Form;
 ghost use mathlib.Core.Path.{_≡_};
 ghost use mathlib.Core.List.{_∷_, []};
@@ -36,25 +36,6 @@ fn put_two(out: &mut [u8], i: usize, n: usize)
 {
     put_byte(out, i, (n / 256) as u8);
     put_byte(out, i + 1, (n % 256) as u8);
-}
-
-// A part of s at i, as far as there is room.
-pub fn copy(s: &[u8], p: Part, out: &mut [u8], i: usize)
-    requires { ⌜ Lies (now s) p ⌝ }
-    ensures { λ r. ⌜ now (out .exit) ≡ sets (now (out .entry)) i (partIn (now (s .entry)) p) ⌝ }
-{
-    if out.len() <= i {
-        return;
-    }
-    let room = out.len() - i;
-    let from = p.from;
-    let size = p.to - from;
-    let n = lower(size, room);
-    let mut k = 0;
-    while k < n {
-        out[i + k] = s[from + k];
-        k += 1;
-    }
 }
 
 // How many bytes a part has.

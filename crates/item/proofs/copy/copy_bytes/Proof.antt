@@ -1,27 +1,15 @@
 use borrow.Author.Needs.{needs}
-use Rattle.item.proofs.Sinking.{Copied, copying}
+use Rattle.item.proofs.Copying.{Copied, copying}
 use Prim.Native.Nat.{_-_, _+_}
 use lib.ListN.{length}
-use Rattle.item.proofs.sink.copy.Statement.{statement}
-use Rattle.item.proofs.sink.copy.Tie as tie
+use Rattle.item.proofs.copy.copy_bytes.Statement.{statement}
+use Rattle.item.proofs.copy.copy_bytes.Tie as tie
 
 abbrev Inv-loop : tie.InvT-loop
-Inv-loop s out₀ i room from size n k₀ out k = Copied s out₀ i room from size n out k
+Inv-loop s from out₀ i n k₀ out k = Copied s out₀ from i n out k
 
 abbrev μ-loop : tie.MeasureT-loop
-μ-loop s out₀ i room from size n k₀ out k = n - k
-
-returns : tie.Need-returns Inv-loop μ-loop
-returns c = search (copying, needs)
-
-sub-room : tie.Need-sub-room Inv-loop μ-loop
-sub-room c = search (copying, needs)
-
-sub-size : tie.Need-sub-size Inv-loop μ-loop
-sub-size c = search (copying, needs)
-
-lower-requires : tie.Need-lower-requires Inv-loop μ-loop
-lower-requires c κs = search (copying, needs)
+μ-loop s from out₀ i n k₀ out k = n - k
 
 loop-holds : tie.Need-loop-holds Inv-loop μ-loop
 loop-holds c = search (copying, needs)
@@ -50,19 +38,15 @@ loop-again c = search (copying, needs)
 same-length : tie.Need-same-length Inv-loop μ-loop
 same-length c = search (copying, needs)
 
-returns-2 : tie.Need-returns-2 Inv-loop μ-loop
-returns-2 c = search (copying, needs)
+returns : tie.Need-returns Inv-loop μ-loop
+returns c = search (copying, needs)
 
-pub copy-spec : {M : Type 1} → statement M
-copy-spec =
+pub copy-bytes-spec : {M : Type 1} → statement M
+copy-bytes-spec =
     tie.close
     (tie.spec
     Inv-loop
     μ-loop
-    returns
-    sub-room
-    sub-size
-    lower-requires
     loop-holds
     add-out
     shared-slice-read-out
@@ -72,4 +56,4 @@ copy-spec =
     loop-less
     loop-again
     same-length
-    returns-2)
+    returns)
