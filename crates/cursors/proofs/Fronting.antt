@@ -22,65 +22,10 @@ use Rattle.item.specs.declared.reading.Read.the-variants.{End, One}
 use Rattle.item.specs.Place.{KeyIn}
 use Rattle.item.proofs.Places.{drop-take}
 use Rattle.cursors.specs.Cursor.{Heads}
-use Rattle.cursors.specs.Front.{packs, frontKey, top, Fronts}
+use Rattle.item.specs.Front.{packs, frontKey, top}
+use Rattle.item.proofs.Fronts.{drop-bytes, take-bytes, cons-bytes}
+use Rattle.cursors.specs.Front.{Fronts}
 use Rattle.cursors.proofs.Lowering.{head-end, head-is, head-fits}
-
--- ---- bytes of parts
-
-pub drop-bytes : (n : ℕ) (l : Bytes) → AllBytes l → AllBytes (drop n l)
-drop-bytes n l h i = rw (getD-drop n l i 0) (h (n + i))
-
-pub take-bytes : (n : ℕ) (l : Bytes) → AllBytes l → AllBytes (take n l)
-take-bytes n l h i =
-    elim (decLe n i) [
-      | yes q ↦ rw (List·getD-eq-default (take n l) 0 {n = i} (omega (arith, length-take n l))) (omega arith)
-      | no q ↦ rw (getD-take n l i 0 (omega arith)) (h i)
-    ]
-
-cons-bytes : (x : ℕ) (l : Bytes) → x < 256 → AllBytes l → AllBytes (x ∷ l)
-cons-bytes x l h k zero = h
-cons-bytes x l h k (suc i) = k i
-
--- ---- the order of fronts
-
-pub strict : (a b m : ℕ) (l r : Bytes) → a < b → AllBytes l → packs a m l < packs b m r
-unfolding packs
-strict a b zero l r h o = h
-strict a b (suc m) l r h o =
-    strict (a * 256 + getD l 0 0) (b * 256 + getD r 0 0) m (drop 1 l) (drop 1 r) (omega (arith, o 0)) (drop-bytes 1 l o)
-
-rising : (a b m : ℕ) (r : Bytes) → a ≤ b → packs a m [] ≤ packs b m r
-unfolding packs
-rising a b zero r h = h
-rising a b (suc m) r h = rising (a * 256 + 0) (b * 256 + getD r 0 0) m (drop 1 r) (omega arith)
-
-weak : (a m : ℕ) (l r : Bytes) → AllBytes l → bytes l r ≡ Less → packs a m l ≤ packs a m r
-unfolding packs
-weak a zero l r o e = omega arith
-weak a (suc m) [] r o e = rising (a * 256 + 0) (a * 256 + getD r 0 0) m (drop 1 r) (omega arith)
-weak a (suc m) (x ∷ l) [] o e = less≢greater e refl
-weak a (suc m) (x ∷ l) (y ∷ r) o e = go (number x y) refl e (weak (a * 256 + x) m l r (λ i. o (suc i)))
-  where
-    go : (c : Ordering) → number x y ≡ c → orElse c (bytes l r) ≡ Less → (bytes l r ≡ Less → packs (a * 256 + x) m l ≤ packs (a * 256 + x) m r) →
-        packs (a * 256 + x) m l ≤ packs (a * 256 + y) m r
-    go Less c h ih = omega (arith, strict (a * 256 + x) (a * 256 + y) m l r (omega (arith, less-number x y c)) (λ i. o (suc i)))
-    go Equal c h ih = rw (← equal-number x y c) (ih h)
-    go Greater c h ih = less≢greater h refl
-
-pub front-mono : (k l : Bytes) → AllBytes k → bytes k l ≡ Less → frontKey k ≤ frontKey l
-front-mono k l o e = weak 0 8 k l o e
-
--- a lower front, a lower key
-pub front-less : (k l : Bytes) → AllBytes l → frontKey k < frontKey l → bytes k l ≡ Less
-front-less k l o h = go (bytes k l) refl
-  where
-    go : (c : Ordering) → bytes k l ≡ c → c ≡ Less
-    go Less e = refl
-    go Equal e = absurd (let z : frontKey k ≡ frontKey l = ap frontKey (strings .same k l e) in omega (arith, h, z))
-    go Greater e = absurd (omega (arith, h, front-mono l k o (strings .turn k l ∙ ap flip e)))
-
-pub front-greater : (k l : Bytes) → AllBytes k → frontKey l < frontKey k → bytes k l ≡ Greater
-front-greater k l o h = strings .turn l k ∙ ap flip (front-less l k o h)
 
 -- ---- digit
 

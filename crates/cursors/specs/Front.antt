@@ -12,17 +12,13 @@ use Rattle.field.specs.Places.{keyIn}
 use Rattle.field.specs.Run.{AllBytes}
 use Rattle.payload.specs.Content.{Bytes}
 use Rattle.item.specs.declared.place.Held.{Held}
+use Rattle.item.specs.Front.{packs, frontKey, top}
 use Rattle.item.specs.Place.{heldIn, Holds, KeyIn}
 use Rattle.cursors.specs.declared.least.Found.{Found}
 use Rattle.cursors.specs.declared.least.Found.the-variants as found
 use Rattle.cursors.specs.Cursor.{D, run, Stands, Within, HeldAt, Least}
 
 -- ---- one front
-
--- the next m elements behind a number, 0 for each that is not there
-unfoldable pub packs : ℕ → ℕ → Bytes → ℕ
-packs a zero l = a
-packs a (suc m) l = packs (a * 256 + getD l 0 0) m (drop 1 l)
 
 -- four bytes as one number
 abbrev pub quadAt : Bytes → ℕ → ℕ
@@ -32,13 +28,6 @@ quadAt s i = getD s i 0 * 16777216 + getD s (i + 1) 0 * 65536 + getD s (i + 2) 0
 pub record Ranked (s : Bytes) (from to : ℕ) : Type 0 where
   pub ordered : from ≤ to
   pub within : to ≤ length s
-
-abbrev pub frontKey : Bytes → ℕ
-frontKey k = packs 0 8 k
-
--- above each front
-abbrev pub top : ℕ
-top = 18_446_744_073_709_551_615
 
 abbrev pub frontOf : D → ℕ
 frontOf [] = top
