@@ -1,5 +1,6 @@
 pub mod Turning
 pub mod Walking
 pub mod Skipping
+pub mod Seeking
 pub mod Lengths
 pub mod Fitting

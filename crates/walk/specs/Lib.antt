@@ -4,3 +4,4 @@ pub mod Fit
 pub mod Turn
 pub mod Walk
 pub mod Skip
+pub mod Seek
