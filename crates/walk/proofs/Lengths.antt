@@ -121,7 +121,7 @@ module _ (form : Form) where
 
 -- ---- a run of bytes has the length of what it says
 
-body-bytes : (s : Bytes) (tag : ℕ) (b rest : Bytes) → AllBytes s → s ≡ field tag b ++ rest → AllBytes b
+pub body-bytes : (s : Bytes) (tag : ℕ) (b rest : Bytes) → AllBytes s → s ≡ field tag b ++ rest → AllBytes b
 unfolding field
 body-bytes s tag b rest bs e i =
     elim (decLt i (length b)) [

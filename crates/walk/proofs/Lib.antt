@@ -3,4 +3,5 @@ pub mod Walking
 pub mod Skipping
 pub mod Seeking
 pub mod Lengths
+pub mod Passing
 pub mod Fitting

@@ -147,7 +147,7 @@ pub ruleset sizes = (size-origin)
 -- ---- seek
 
 pub seek-start : (s : Bytes) (from bound : ℕ) → Ready Announced s from → Seeks s from bound from 0
-seek-start s from bound r = record { passed = []; split = refl; low = tt; number = refl; on = omega arith; few = omega arith; ready = r }
+seek-start s from bound r = record { passed = []; split = refl; low = tt; number = refl; on = omega arith; few-on = omega arith; ready = r }
 
 all-append : {A : Type 0} (P : A → Type 0) (a b : List A) → All P a → All P b → All P (a ++ b)
 all-append P [] b x y = y
@@ -184,7 +184,7 @@ module _ (s : Bytes) (from bound at count : ℕ) (l : Seeks s from bound at coun
           low = all-append (λ (y : Item Bytes Bytes). frontKey (y .key) < bound) (l .passed) (x ∷ []) (l .low) (rw w at q, tt);
           number = length-append (l .passed) (x ∷ []) ∙ omega (arith, l .number);
           on = omega (arith, l .on);
-          few = omega (arith, l .few, d);
+          few-on = omega (arith, l .few-on, d);
           ready = rw z (record { good = behind Snapshot s at (l .ready .good) seek-in; within = within Snapshot s at (l .ready .good) seek-in });
         }
 
@@ -192,6 +192,6 @@ module _ (s : Bytes) (from bound at count : ℕ) (l : Seeks s from bound at coun
     seek-less n e = omega arith
 
     pub seek-count : Fits w64 (length s) → count + 1 < 2 ^ 64
-    seek-count w = omega (arith, l .few, w .fits)
+    seek-count w = omega (arith, l .few-on, w .fits)
 
 pub ruleset seeking = (seek-start, seek-ready, seek-in, seek-word, seek-size, seek-more, seek-less, seek-count)

@@ -43,8 +43,8 @@ use Rattle.walk.specs.declared.walk.Step.the-variants as step
 use Rattle.walk.specs.declared.walk.Output.the-variants.{NoRoom, Written}
 use Rattle.walk.specs.Turn.{TurnIs, TurnMeans}
 use Rattle.item.specs.Write.{fieldAs, writes, plusItem, plusAll, zero, Room}
-use Rattle.walk.specs.Skip.{Skips}
-use Rattle.walk.specs.Walk.{EntryIn, bothOf, Passed, leftOf, Wrote, StepMeans, StepIs, Runs, outputOf, wholeOut}
+use Rattle.walk.specs.declared.pass.Stand.{Stand}
+use Rattle.walk.specs.Walk.{EntryIn, bothOf, Passed, leftOf, Wrote, Stands, StepMeans, StepIs, Sized, Runs, outputOf, wholeOut}
 use Rattle.item.proofs.Sinking.{sets-append}
 use Rattle.item.proofs.Tabling.{table-held}
 use Rattle.item.proofs.Putting.{counts-path, field-small}
@@ -62,7 +62,7 @@ pub writes-nil : (form : Form) (o : Bytes) (i : ℕ) → o ≡ sets o i (writes 
 unfolding encode
 writes-nil form o i = refl
 
-writes-append : (form : Form) (e f : D) → writes form (e ++ f) ≡ writes form e ++ writes form f
+pub writes-append : (form : Form) (e f : D) → writes form (e ++ f) ≡ writes form e ++ writes form f
 unfolding encode
 writes-append form [] f = refl
 writes-append form (x ∷ e) f = ap (λ (s : Bytes). fieldAs form x ++ s) (writes-append form e f) ∙ sym (append-assoc (fieldAs form x) (writes form e) (writes form f))
@@ -265,22 +265,27 @@ module _ {A B C : Type 0} (f : Option A → Option B → Option C) where
 one-wrote : (form : Form) (ra : Reading) (a : Bytes) (i : ℕ) (rb : Reading) (b : Bytes) (j : ℕ) (c : Counts) (o : Bytes) (c′ : Counts) (o′ : Bytes)
     (s : Bytes) (key : Key) (act : Act) → KeyIn s key → ActFits s s act → (p q : ℕ) →
     leftOf ra a i rb b j ≡ itemIn s s key act ∷ leftOf ra a p rb b q → c′ ≡ plusItem form c (itemIn s s key act) →
-    o′ ≡ sets o (c .len) (fieldAs form (itemIn s s key act)) → Ready ra a p → Ready rb b q → (i ≤ p) × (j ≤ q) × (i + j < p + q) →
-    Wrote form ra a i rb b j c o o′ p q c′
-one-wrote form ra a i rb b j c o c′ o′ s key act k f p q e ec eo x y h =
+    o′ ≡ sets o (c .len) (fieldAs form (itemIn s s key act)) → Ready ra a p → Ready rb b q → i ≤ p → j ≤ q → i + j < p + q →
+    Wrote form ra a i rb b j c o o′ p q c′ × (i + j < p + q)
+one-wrote form ra a i rb b j c o c′ o′ s key act k f p q e ec eo x y u v h =
     let n = one-small form s s key act k f in
     let w = writes-one form c (itemIn s s key act) in
-    record {
-      written = itemIn s s key act ∷ [];
-      is = e;
-      counts = ec ∙ plus-one form c (itemIn s s key act);
-      laid = eo ∙ ap (sets o (c .len)) w;
-      short = rw (← w) n;
-      few = (omega (arith, announces-one (changeIn s s act)), omega (arith, withdraws-one (changeIn s s act)));
-      ready-a = x;
-      ready-b = y;
-      ahead = h;
-    }
+    (
+      record {
+        written = itemIn s s key act ∷ [];
+        is = e;
+        counts = ec ∙ plus-one form c (itemIn s s key act);
+        laid = eo ∙ ap (sets o (c .len)) w;
+        short = rw (← w) (omega (arith, n));
+        announced = omega (arith, announces-one (changeIn s s act));
+        withdrawn = omega (arith, withdraws-one (changeIn s s act));
+        ready-a = x;
+        ready-b = y;
+        on-a = u;
+        on-b = v;
+      },
+      h,
+    )
 
 emit-append : (k : Bytes) (o : Option (Change Bytes)) (d : D) → emit k o d ≡ emit k o [] ++ d
 emit-append k none d = refl
@@ -310,7 +315,7 @@ module _ (form : Form) (ra : Reading) (a : Bytes) (i : ℕ) (rb : Reading) (b : 
           o′ ≡ sets o (c .len) (fieldAs form (itemIn a a (x .key) (x .act))) → StepIs form ra a i rb b j c o o′ (step.On (x .next) j c′)
       step-left c′ o′ ec eo =
           let f = read-left .fits in
-          record { is = one-wrote form ra a i rb b j c o c′ o′ a (x .key) (x .act) (f .key) (f .act) (x .next) j left-is ec eo (f .ready) n (omega (arith, f .ahead), omega arith, omega (arith, f .ahead)) }
+          record { is = one-wrote form ra a i rb b j c o c′ o′ a (x .key) (x .act) (f .key) (f .act) (x .next) j left-is ec eo (f .ready) n (omega (arith, f .ahead)) (omega arith) (omega (arith, f .ahead)) }
 
     -- an item of the right side alone
     module _ (y : Entry) (q : t ≡ Right y) where
@@ -326,7 +331,7 @@ module _ (form : Form) (ra : Reading) (a : Bytes) (i : ℕ) (rb : Reading) (b : 
           o′ ≡ sets o (c .len) (fieldAs form (itemIn b b (y .key) (y .act))) → StepIs form ra a i rb b j c o o′ (step.On i (y .next) c′)
       step-right c′ o′ ec eo =
           let f = read-right .fits in
-          record { is = one-wrote form ra a i rb b j c o c′ o′ b (y .key) (y .act) (f .key) (f .act) i (y .next) right-is ec eo m (f .ready) (omega arith, omega (arith, f .ahead), omega (arith, f .ahead)) }
+          record { is = one-wrote form ra a i rb b j c o c′ o′ b (y .key) (y .act) (f .key) (f .act) i (y .next) right-is ec eo m (f .ready) (omega arith) (omega (arith, f .ahead)) (omega (arith, f .ahead)) }
 
     -- an item of both sides
     module _ (x y : Entry) (q : t ≡ Both x y) where
@@ -351,17 +356,22 @@ module _ (form : Form) (ra : Reading) (a : Bytes) (i : ℕ) (rb : Reading) (b : 
           let g = read-b .fits in
           let s = both-small form a x b y (f .key) (f .act) (g .act) in
           record {
-            is = record {
-              written = bothOf a x b y;
-              is = both-is;
-              counts = ec;
-              laid = eo;
-              short = s .len;
-              few = (s .announced, s .withdrawn);
-              ready-a = f .ready;
-              ready-b = g .ready;
-              ahead = (omega (arith, f .ahead), omega (arith, g .ahead), omega (arith, f .ahead, g .ahead));
-            };
+            is = (
+              record {
+                written = bothOf a x b y;
+                is = both-is;
+                counts = ec;
+                laid = eo;
+                short = omega (arith, s .len, f .ahead, g .ahead);
+                announced = omega (arith, s .announced, f .ahead, g .ahead);
+                withdrawn = omega (arith, s .withdrawn, f .ahead, g .ahead);
+                ready-a = f .ready;
+                ready-b = g .ready;
+                on-a = omega (arith, f .ahead);
+                on-b = omega (arith, g .ahead);
+              },
+              omega (arith, f .ahead, g .ahead),
+            );
           }
 
 -- what a turn takes lies in its run
@@ -382,39 +392,55 @@ pub ruleset stepping = (step-over, step-left, step-right, step-both, left-in, ri
 
 -- ---- put_step
 
+-- one piece of a walk behind another
+module _ (form : Form) (ra : Reading) (a : Bytes) (i : ℕ) (rb : Reading) (b : Bytes) (j : ℕ) (c : Counts) (o : Bytes) (o₁ : Bytes) (p q : ℕ) (c₁ : Counts)
+    (v : Wrote form ra a i rb b j c o o₁ p q c₁) (o₂ : Bytes) (k l : ℕ) (c₂ : Counts) (w : Wrote form ra a p rb b q c₁ o₁ o₂ k l c₂) where
+  then : Wrote form ra a i rb b j c o o₂ k l c₂
+  then = record {
+    written = v .written ++ w .written;
+    is = v .is ∙ ap (λ (d : D). v .written ++ d) (w .is) ∙ sym (append-assoc (v .written) (w .written) (leftOf ra a k rb b l));
+    counts = w .counts ∙ ap (λ (x : Counts). plusAll form x (w .written)) (v .counts) ∙ sym (plus-append form c (v .written) (w .written));
+    laid = w .laid ∙ laid-then ∙ sym (sets-writes form o (c .len) (v .written) (w .written));
+    short = omega (arith, v .short, w .short, ap length (writes-append form (v .written) (w .written)), length-append (writes form (v .written)) (writes form (w .written)));
+    announced = omega (arith, v .announced, w .announced, sum-append announces (v .written) (w .written));
+    withdrawn = omega (arith, v .withdrawn, w .withdrawn, sum-append withdraws (v .written) (w .written));
+    ready-a = w .ready-a;
+    ready-b = w .ready-b;
+    on-a = omega (arith, v .on-a, w .on-a);
+    on-b = omega (arith, v .on-b, w .on-b);
+  }
+    where
+      laid-then : sets o₁ (c₁ .len) (writes form (w .written)) ≡ sets (sets o (c .len) (writes form (v .written))) (c .len + length (writes form (v .written))) (writes form (w .written))
+      laid-then = ap₂ (λ (x : Bytes) (n : ℕ). sets x n (writes form (w .written))) (v .laid) (ap (λ (x : Counts). x .len) (v .counts))
+
 module _ (form : Form) (ra : Reading) (a : Bytes) (i : ℕ) (rb : Reading) (b : Bytes) (j : ℕ) (c : Counts) (o o′ : Bytes) (t : Step)
     (h : StepIs form ra a i rb b j c o o′ t) where
-  pub skip-over : (s : Side) → t ≡ step.Over s → StepIs form ra a i rb b j c o o′ (step.Over s)
-  skip-over s e = rw e at h
+  pub pass-over : (s : Side) → t ≡ step.Over s → StepIs form ra a i rb b j c o o′ (step.Over s)
+  pass-over s e = rw e at h
 
   module _ (p q : ℕ) (c′ : Counts) (e : t ≡ step.On p q c′) where
-    turned : Wrote form ra a i rb b j c o o′ p q c′
+    turned : Wrote form ra a i rb b j c o o′ p q c′ × (i + j < p + q)
     turned = rw e at (h .is)
 
-    pub skip-ready-a : Ready ra a p
-    skip-ready-a = turned .ready-a
+    pub pass-stands : Room c → Sized a b → Stands ra a p rb b q c′
+    pass-stands r s =
+        let w = turned .0 in
+        let x = w .ready-a .within in
+        let y = w .ready-b .within in
+        record {
+          ready-a = w .ready-a;
+          ready-b = w .ready-b;
+          short = s .short-a;
+          len = rw (w .counts) (omega (arith, r .len, w .short, s .short-a, s .short-b));
+          announced = rw (w .counts) (omega (arith, r .announced, w .announced, s .short-a, s .short-b));
+        }
 
-    pub skip-ready-b : Ready rb b q
-    skip-ready-b = turned .ready-b
+    pub pass-on : (o″ : Bytes) (s : Stand) → Wrote form ra a p rb b q c′ o′ o″ (s .left) (s .right) (s .counts) → StepIs form ra a i rb b j c o o″ (step.On (s .left) (s .right) (s .counts))
+    pass-on o″ s w =
+        let u = turned in
+        record { is = (then form ra a i rb b j c o o′ p q c′ (u .0) o″ (s .left) (s .right) (s .counts) w, omega (arith, u .1, w .on-a, w .on-b)) }
 
-    module _ (k : ℕ) (s : Skips ra a p rb b q k) where
-      -- what both sides have behind the turn is passed over
-      pub skip-on : StepIs form ra a i rb b j c o o′ (step.On (p + k) (q + k) c′)
-      skip-on = let w = turned in record {
-        is = record {
-          written = w .written;
-          is = w .is ∙ ap (λ (d : D). w .written ++ d) (s .is);
-          counts = w .counts;
-          laid = w .laid;
-          short = w .short;
-          few = w .few;
-          ready-a = s .ready-a;
-          ready-b = s .ready-b;
-          ahead = (omega (arith, w .ahead .0), omega (arith, w .ahead .1), omega (arith, w .ahead .2));
-        };
-      }
-
-pub ruleset skipped = (skip-over, skip-ready-a, skip-ready-b, skip-on)
+pub ruleset passed = (pass-over, pass-stands, pass-on)
 
 -- ---- put_merge
 
@@ -454,6 +480,9 @@ module _ (form : Form) (ra : Reading) (a : Bytes) (rb : Reading) (b o₀ : Bytes
         withdrawn = omega (arith, m .withdrawn, m .short-a, m .short-b);
       }
 
+  pub merge-sized : Sized a b
+  merge-sized = record { short-a = m .short-a; short-b = m .short-b }
+
   pub merge-passed-a : Passed c i (length a)
   merge-passed-a =
       let y = m .ready-b .within in
@@ -467,21 +496,21 @@ module _ (form : Form) (ra : Reading) (a : Bytes) (rb : Reading) (b o₀ : Bytes
   module _ (o′ : Bytes) (t : Step) (h : StepIs form ra a i rb b j c o o′ t) where
     -- the walk goes on
     module _ (p q : ℕ) (c′ : Counts) (e : t ≡ step.On p q c′) where
-      wrote : Wrote form ra a i rb b j c o o′ p q c′
+      wrote : Wrote form ra a i rb b j c o o′ p q c′ × (i + j < p + q)
       wrote = rw e at (h .is)
 
       pub merge-less : length a - p + (length b - q) < length a - i + (length b - j)
-      merge-less = let w = wrote in omega (arith, w .ahead .0, w .ahead .1, w .ahead .2, w .ready-a .within, w .ready-b .within)
+      merge-less = let w = wrote in omega (arith, w .0 .on-a, w .0 .on-b, w .1, w .0 .ready-a .within, w .0 .ready-b .within)
 
       pub merge-again : Merging form ra a rb b o₀ p q c′ o′
-      merge-again = let w = wrote in record {
+      merge-again = let w = wrote .0 in record {
         ready-a = w .ready-a;
         ready-b = w .ready-b;
         short-a = m .short-a;
         short-b = m .short-b;
-        len = rw (w .counts) (omega (arith, m .len, w .short, w .ahead .2));
-        announced = rw (w .counts) (omega (arith, m .announced, w .few .0, w .ahead .2));
-        withdrawn = rw (w .counts) (omega (arith, m .withdrawn, w .few .1, w .ahead .2));
+        len = rw (w .counts) (omega (arith, m .len, w .short));
+        announced = rw (w .counts) (omega (arith, m .announced, w .announced));
+        withdrawn = rw (w .counts) (omega (arith, m .withdrawn, w .withdrawn));
         long = ap length (w .laid) ∙ length-sets o (c .len) (writes form (w .written)) ∙ m .long;
         left = left-some form c o _ zero o₀ _ (m .left) (w .written) (leftOf ra a p rb b q) (w .is) c′ o′ (w .counts) (w .laid);
       }
@@ -512,7 +541,7 @@ module _ (form : Form) (ra : Reading) (a : Bytes) (rb : Reading) (b o₀ : Bytes
       over-right-bytes d p f =
           f ∙ ap₂ (λ (v : Bytes) (x : D). sets v (c .len) (writes form x)) (rest-right d .0) (sym (rest-right d .1)) ∙ m .left .laid
 
-pub ruleset merging = (merge-start, merge-room, merge-passed-a, merge-passed-b, merge-less, merge-again, over-left-counts, over-left-bytes, over-right-counts, over-right-bytes)
+pub ruleset merging = (merge-start, merge-room, merge-sized, merge-passed-a, merge-passed-b, merge-less, merge-again, over-left-counts, over-left-bytes, over-right-counts, over-right-bytes)
 
 -- ---- put_whole
 

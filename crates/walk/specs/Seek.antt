@@ -1,5 +1,5 @@
 -- The run of a snapshot's items below a delta's next item.
-use Prim.Native.Nat.{ℕ, _≤_, _<_}
+use Prim.Native.Nat.{ℕ, _+_, _≤_, _<_}
 use mathlib.Core.Path.{_≡_}
 use mathlib.Core.List.{_∷_, _++_}
 use lib.ListN.{length, drop}
@@ -24,5 +24,5 @@ pub record Seeks (s : Bytes) (from bound at count : ℕ) : Type 0 where
   pub low : All (λ (x : Item Bytes Bytes). frontKey (x .key) < bound) passed
   pub number : length passed ≡ count
   pub on : from ≤ at
-  pub few : count ≤ at
+  pub few-on : count + from ≤ at
   pub ready : Ready Announced s at

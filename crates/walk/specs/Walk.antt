@@ -1,5 +1,5 @@
 -- What the walk writes of two items with one key, and how far its counts can be.
-use Prim.Native.Nat.{ℕ, _+_, _*_, _≤_, _<_}
+use Prim.Native.Nat.{ℕ, _+_, _*_, _^_, _≤_, _<_}
 use mathlib.Core.Path.{_≡_}
 use mathlib.Core.List.{[], _++_}
 use lib.ListN.{length, drop}
@@ -46,26 +46,42 @@ pub record Passed (c : Counts) (at size : ℕ) : Type 0 where
 abbrev pub leftOf : Reading → Bytes → ℕ → Reading → Bytes → ℕ → Delta Bytes Bytes
 leftOf ra a i rb b j = merge bytes bytes (readAs ra (drop i a)) (readAs rb (drop j b))
 
--- a turn that wrote at most one item and passed at least one field: what was left is that item and what is left
+-- what was left at i and j is what was written and what is left at p and q; no more was written than was passed: at most
+-- 40,000 bytes and one item for each byte
 pub record Wrote (form : Form) (ra : Reading) (a : Bytes) (i : ℕ) (rb : Reading) (b : Bytes) (j : ℕ) (c : Counts) (o o′ : Bytes) (p q : ℕ) (c′ : Counts) : Type 0 where
   pub written : Delta Bytes Bytes
   pub is : leftOf ra a i rb b j ≡ written ++ leftOf ra a p rb b q
   pub counts : c′ ≡ plusAll form c written
   pub laid : o′ ≡ sets o (c .len) (writes form written)
-  pub short : length (writes form written) ≤ 40_000
-  pub few : (sumOf announces written ≤ 1) × (sumOf withdraws written ≤ 1)
+  pub short : length (writes form written) + 40_000 * (i + j) ≤ 40_000 * (p + q)
+  pub announced : sumOf announces written + (i + j) ≤ p + q
+  pub withdrawn : sumOf withdraws written + (i + j) ≤ p + q
   pub ready-a : Ready ra a p
   pub ready-b : Ready rb b q
-  pub ahead : (i ≤ p) × (j ≤ q) × (i + j < p + q)
+  pub on-a : i ≤ p
+  pub on-b : j ≤ q
+
+-- where a walk stands between two turns: the counts leave room for all of the left run
+pub record Stands (ra : Reading) (a : Bytes) (i : ℕ) (rb : Reading) (b : Bytes) (j : ℕ) (c : Counts) : Type 0 where
+  pub ready-a : Ready ra a i
+  pub ready-b : Ready rb b j
+  pub short : length a ≤ 33_554_432
+  pub len : c .len < 2 ^ 63
+  pub announced : c .announced < 2 ^ 63
 
 module _ (form : Form) (ra : Reading) (a : Bytes) (i : ℕ) (rb : Reading) (b : Bytes) (j : ℕ) (c : Counts) (o o′ : Bytes) where
   abbrev pub StepMeans : Step → Type 0
   StepMeans (Over side.Left) = (o′ ≡ o) × (readAs rb (drop j b) ≡ [])
   StepMeans (Over side.Right) = (o′ ≡ o) × (readAs ra (drop i a) ≡ [])
-  StepMeans (On p q c′) = Wrote form ra a i rb b j c o o′ p q c′
+  StepMeans (On p q c′) = Wrote form ra a i rb b j c o o′ p q c′ × (i + j < p + q)
 
   pub record StepIs (r : Step) : Type 0 where
     pub is : StepMeans r
+
+-- two runs within the longer of the limits
+pub record Sized (a b : Bytes) : Type 0 where
+  pub short-a : length a ≤ 33_554_432
+  pub short-b : length b ≤ 33_554_432
 
 -- two good runs, within the longer of the limits
 pub record Runs (ra : Reading) (a : Bytes) (rb : Reading) (b : Bytes) : Type 0 where

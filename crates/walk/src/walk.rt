@@ -1,6 +1,6 @@
 // The walk over two runs: both read as changes, merged, and written. A difference is the merge of everything old
 // withdrawn with everything new announced; an application that of everything held announced with the delta.
-use crate::skip::skip;
+use crate::pass::put_pass;
 use crate::turn::Side;
 use crate::turn::Turn;
 use crate::turn::take_turn;
@@ -20,7 +20,7 @@ ghost use lib.Seq.{sets};
 ghost use Rattle.item.specs.Place.{itemIn};
 ghost use Rattle.item.specs.Reading.{readAs, Ready};
 ghost use Rattle.item.specs.Write.{Room, plusItem, plusAll, fieldAs, writes, zero};
-ghost use Rattle.walk.specs.Walk.{EntryIn, bothOf, Passed, Runs, mergedAs, StepIs, outputOf, wholeOut};
+ghost use Rattle.walk.specs.Walk.{EntryIn, bothOf, Passed, Sized, Runs, mergedAs, StepIs, outputOf, wholeOut};
 
 // An item that one side alone has.
 fn put_one(form: Form, s: &[u8], x: Entry, out: &mut [u8], counts: Counts) -> Counts
@@ -117,7 +117,7 @@ fn put_turn(
     }
 }
 
-// One turn, written; behind it what both sides have in common is passed over.
+// One turn, written; behind it what needs no turn is passed.
 fn put_step(
     form: Form,
     ra: Reading,
@@ -129,14 +129,15 @@ fn put_step(
     out: &mut [u8],
     counts: Counts,
 ) -> Step
-    requires { ⌜ Ready ra (now a) i × (Ready rb (now b) j × Room counts) ⌝ }
+    requires { ⌜ Ready ra (now a) i × (Ready rb (now b) j × (Room counts × Sized (now a) (now b))) ⌝ }
     ensures { λ r. ⌜ StepIs form ra (now (a .entry)) i rb (now (b .entry)) j counts (now (out .entry)) (now (out .exit)) r ⌝ }
 {
     match put_turn(form, ra, a, i, rb, b, j, out, counts) {
         Step::Over(side) => Step::Over(side),
         Step::On(p, q, sum) => {
-            let k = skip(ra, a, p, rb, b, q);
-            Step::On(p + k, q + k, sum)
+            let stand = put_pass(form, ra, a, p, rb, b, q, out, sum);
+            let total = stand.counts;
+            Step::On(stand.left, stand.right, total)
         }
     }
 }
