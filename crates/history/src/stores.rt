@@ -2,7 +2,7 @@
 use field::tag::Form;
 use item::place::Part;
 use item::reading::Reading;
-use item::sink::copy;
+use item::copy::copy;
 use walk::walk::put_merge;
 ghost use mathlib.Core.Path.{_≡_};
 ghost use mathlib.Core.List.{_++_};

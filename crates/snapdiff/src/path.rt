@@ -1,6 +1,6 @@
 // The path of a file in a folder.
 use item::place::Part;
-use item::sink::copy;
+use item::copy::copy;
 ghost use Rattle.io.specs.Counts.{Counts};
 
 // The name behind the folder, which is the first n bytes of path; nothing where there is no folder, or no room.

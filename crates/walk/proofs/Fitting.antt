@@ -1,7 +1,7 @@
 -- Laws of application: the first item of a delta that cannot be applied.
-use Prim.Native.Nat.{ℕ, _+_, _-_, _<_}
+use Prim.Native.Nat.{ℕ, _+_, _-_, _<_, _≤_}
 use mathlib.Core.Path.{_≡_, refl, sym, ap, subst, _∙_}
-use mathlib.Core.List.{List, [], _∷_, map}
+use mathlib.Core.List.{List, [], _∷_, _++_, map}
 use mathlib.Core.Option.{Option, none, some}
 use mathlib.Core.Bool.{Bool, true, false, not}
 use native.Mathlib.Omega.{arith}
@@ -10,7 +10,7 @@ use lib.ListN.{length, drop}
 use Rattle.order.specs.declared.Ordering.{Ordering}
 use Rattle.order.specs.declared.Ordering.the-variants.{Less, Equal, Greater}
 use Rattle.order.specs.Comparison.{bytes, flip}
-use Rattle.order.specs.Map.{Item, lookup, own, Below, Sorted}
+use Rattle.order.specs.Map.{Item, All, lookup, own, Below, Sorted}
 use Rattle.order.proofs.Comparison.{strings}
 use Rattle.order.proofs.Map.{absent}
 use Rattle.change.specs.Change.{Change, announce}
@@ -20,6 +20,7 @@ use Rattle.change.proofs.Whole.{asNew, diff-new}
 use Rattle.field.specs.declared.tag.Form.the-variants as form
 use Rattle.field.specs.Cells.{Cell, cells}
 use Rattle.field.specs.Places.{keyIn}
+use Rattle.field.specs.Run.{AllBytes}
 use Rattle.payload.specs.Content.{Bytes, entryOf}
 use Rattle.payload.specs.Payload.{entries, items, changes}
 use Rattle.payload.proofs.Faithful.{Read, read}
@@ -38,8 +39,13 @@ use Rattle.walk.specs.declared.fit.Fit.{Fit}
 use Rattle.walk.specs.declared.fit.Fit.the-variants as fit
 use Rattle.item.specs.Place.{partIn, changeIn, itemIn, PartFits, ActFits}
 use Rattle.item.specs.Reading.{readAs, Ready, FieldIs, Reads}
-use Rattle.walk.specs.Turn.{TurnIs}
-use Rattle.walk.specs.Fit.{misfit, fitOf, absentPlace, valuePlace}
+use Rattle.item.specs.Front.{frontKey}
+use Rattle.item.proofs.Fronts.{front-less}
+use Rattle.walk.specs.Seek.{Bounds, Seeks}
+use Rattle.walk.specs.declared.fit.FitStep.{FitStep}
+use Rattle.walk.specs.declared.fit.FitStep.the-variants as fit-step
+use Rattle.walk.specs.Turn.{TurnIs, TurnMeans}
+use Rattle.walk.specs.Fit.{misfit, fitOf, absentPlace, valuePlace, Pairs, Onward, Past, FitStepMeans, FitStepIs}
 use Rattle.item.proofs.Sinking.{fits-withdraw, fits-former}
 
 -- ---- the small functions
@@ -222,50 +228,77 @@ module _ (s : Bytes) (i : ℕ) (x : Entry) (r : Reads Announced s i (One x)) whe
   held-value : partIn s (valuePlace (x .act)) ≡ heldItem .val
   held-value = value-is s (x .act) (heldItem .val) (ap (λ (y : Item Bytes (Change Bytes)). y .val) (G .says))
 
-pub record Fitting (s d : Bytes) (i j : ℕ) : Type 0 where
-  pub ready-s : Ready Announced s i
-  pub ready-d : Ready Changes d j
-  pub left : misfit (items (drop i s)) j (cells (drop j d)) ≡ fitOf s d
+-- ---- pass_below
 
-pub fitting-start : (s d : Bytes) → Ready Announced s 0 → Ready Changes d 0 → Fitting s d 0 0
-fitting-start s d p q = record { ready-s = p; ready-d = q; left = refl }
+-- items with fronts below the delta's next one do not matter to it
+misfit-low : (bound : ℕ) (e : change.Snapshot Bytes Bytes) → All (λ (x : Item Bytes Bytes). frontKey (x .key) < bound) e → (A : change.Snapshot Bytes Bytes) (at : ℕ) (cs : List Cell)
+    → ((y : Item Bytes (Change Bytes)) (rest : change.Delta Bytes Bytes) → map (entryOf form.Delta) cs ≡ y ∷ rest → (bound ≤ frontKey (y .key)) × AllBytes (y .key))
+    → Sorted bytes (map (entryOf form.Delta) cs) → misfit (e ++ A) at cs ≡ misfit A at cs
+misfit-low bound [] h A at cs g s = refl
+misfit-low bound (x ∷ e) h A at cs g s = misfit-past x (e ++ A) at cs (low (map (entryOf form.Delta) cs) refl) s ∙ misfit-low bound e (h .1) A at cs g s
+  where
+    low : (C : change.Delta Bytes Bytes) → map (entryOf form.Delta) cs ≡ C → Below bytes (x .key) C
+    low [] q = tt
+    low (y ∷ rest) q = let z = g y rest q in front-less (x .key) (y .key) (z .1) (omega (arith, h .0, z .0))
 
-module _ (s d : Bytes) (i j : ℕ) (m : Fitting s d i j) (t : Turn) (h : TurnIs Announced s i Changes d j t) where
+module _ (s : Bytes) (i : ℕ) (d : Bytes) (j : ℕ) (p : Pairs s i d j) where
+  pub pairs-left : Ready Announced s i
+  pairs-left = p .ready-s
+
+  pub pairs-right : Ready Changes d j
+  pairs-right = p .ready-d
+
+  pub past-is : (bound r n : ℕ) → Bounds d j bound → Seeks s i bound r n → Past s i d j r
+  unfolding entries
+  past-is bound r n b k =
+      record {
+        pairs = record { ready-s = k .ready; ready-d = p .ready-d };
+        on-s = k .on;
+        on-d = omega arith;
+        same = ap (λ (A : change.Snapshot Bytes Bytes). misfit A j (cells (drop j d))) (k .split)
+            ∙ misfit-low bound (k .passed) (k .low) (items (drop r s)) j (cells (drop j d)) (b .above) (read form.Delta (p .ready-d .good .run) .sorted);
+      }
+
+pub ruleset past = (pairs-left, pairs-right, past-is)
+
+-- ---- fit_turn
+
+module _ (s : Bytes) (i : ℕ) (d : Bytes) (j : ℕ) (m : Pairs s i d j) (t : Turn) (h : TurnIs Announced s i Changes d j t) where
   sorted-d : Sorted bytes (changes (drop j d))
   sorted-d = read form.Delta (m .ready-d .good .run) .sorted
 
   sorted-s : Sorted bytes (items (drop i s))
   sorted-s = read form.Snapshot (m .ready-s .good .run) .sorted
 
-  module _ (w : Side) (q : t ≡ Over w) where
-    pub fits-all : w ≡ side.Left → fit.All ≡ fitOf s d
-    fits-all e =
-        let z : changes (drop j d) ≡ [] = rw (q, e) at (h .is) in
-        sym (ap (misfit (items (drop i s)) j) (no-cells (drop j d) z) ∙ misfit-nil (items (drop i s)) j) ∙ m .left
-
-    pub fits-rest : w ≡ side.Right → (r : Fit) → r ≡ misfit [] j (cells (drop j d)) → r ≡ fitOf s d
-    fits-rest e r f =
-        let z : readAs Announced (drop i s) ≡ [] = rw (q, e) at (h .is) in
-        f ∙ ap (λ (A : change.Snapshot Bytes Bytes). misfit A j (cells (drop j d))) (sym (no-items (drop i s) z)) ∙ m .left
+  pub fit-over : (w : Side) → t ≡ Over w → FitStepIs s i d j (fit-step.Over w)
+  fit-over w q = record { is = go w (rw q at (h .is)) }
+    where
+      go : (w : Side) → TurnMeans Announced s i Changes d j (Over w) → FitStepMeans s i d j (fit-step.Over w)
+      go side.Left z = z
+      go side.Right z = no-items (drop i s) z
 
   module _ (x : Entry) (q : t ≡ Left x) where
     left-read : Reads Announced s i (One x)
     left-read = (rw q at (h .is)) .0
 
-    pub pass-held : Fitting s d (x .next) j
+    pub pass-held : FitStepIs s i d j (fit-step.On (x .next) j)
     unfolding entries
     pass-held =
         let b : Below bytes (keyIn s (x .key)) (changes (drop j d)) = (rw q at (h .is)) .1 in
         let c : Below bytes (heldItem s i x left-read .key) (changes (drop j d)) = subst (λ (k : Bytes). Below bytes k (changes (drop j d))) (held-key s i x left-read) b in
+        let f = left-read .fits in
         record {
-          ready-s = left-read .fits .ready;
-          ready-d = m .ready-d;
-          left = sym (misfit-past (heldItem s i x left-read) (items (drop (x .next) s)) j (cells (drop j d)) c sorted-d)
-              ∙ ap (λ (A : change.Snapshot Bytes Bytes). misfit A j (cells (drop j d))) (sym (items-are s i x left-read)) ∙ m .left;
+          is = (
+            record {
+              pairs = record { ready-s = f .ready; ready-d = m .ready-d };
+              same = ap (λ (A : change.Snapshot Bytes Bytes). misfit A j (cells (drop j d))) (items-are s i x left-read)
+                  ∙ misfit-past (heldItem s i x left-read) (items (drop (x .next) s)) j (cells (drop j d)) c sorted-d;
+              on-s = omega (arith, f .ahead);
+              on-d = omega arith;
+            },
+            omega (arith, f .ahead),
+          );
         }
-
-    pub pass-held-less : length s - x .next + (length d - j) < length s - i + (length d - j)
-    pass-held-less = let f = left-read .fits in omega (arith, f .ahead, f .ready .within)
 
   module _ (y : Entry) (q : t ≡ Right y) (r : Bool) (f : r ≡ absentPlace (y .act)) where
     right-read : Reads Changes d j (One y)
@@ -274,18 +307,23 @@ module _ (s d : Bytes) (i j : ℕ) (m : Fitting s d i j) (t : Turn) (h : TurnIs 
     not-held : lookup bytes (keyIn d (y .key)) (items (drop i s)) ≡ none
     not-held = absent strings (keyIn d (y .key)) (items (drop i s)) (below-items (keyIn d (y .key)) (drop i s) ((rw q at (h .is)) .1)) sorted-s
 
-    pub absent-stops : not r ≡ true → fit.Misfit j ≡ fitOf s d
-    absent-stops z = sym (stops d j y right-read (items (drop i s)) none not-held r (f ∙ absent-fits d (y .act)) z) ∙ m .left
+    pub absent-stops : not r ≡ true → FitStepIs s i d j fit-step.Misfit
+    absent-stops z = record { is = stops d j y right-read (items (drop i s)) none not-held r (f ∙ absent-fits d (y .act)) z }
 
-    pub absent-again : not r ≡ false → Fitting s d i (y .next)
-    absent-again z = record {
-      ready-s = m .ready-s;
-      ready-d = right-read .fits .ready;
-      left = sym (goes-on d j y right-read (items (drop i s)) none not-held r (f ∙ absent-fits d (y .act)) z) ∙ m .left;
-    }
-
-  pub absent-less : (y : Entry) → t ≡ Right y → length s - i + (length d - y .next) < length s - i + (length d - j)
-  absent-less y q = let f = (rw q at (h .is)) .0 .fits in omega (arith, f .ahead, f .ready .within)
+    pub absent-again : not r ≡ false → FitStepIs s i d j (fit-step.On i (y .next))
+    absent-again z =
+        let e = right-read .fits in
+        record {
+          is = (
+            record {
+              pairs = record { ready-s = m .ready-s; ready-d = e .ready };
+              same = goes-on d j y right-read (items (drop i s)) none not-held r (f ∙ absent-fits d (y .act)) z;
+              on-s = omega arith;
+              on-d = omega (arith, e .ahead);
+            },
+            omega (arith, e .ahead),
+          );
+        }
 
   module _ (x y : Entry) (q : t ≡ Both x y) where
     read-s : Reads Announced s i (One x)
@@ -300,12 +338,6 @@ module _ (s d : Bytes) (i j : ℕ) (m : Fitting s d i j) (t : Turn) (h : TurnIs 
     pub both-change : ActFits d d (y .act)
     both-change = read-d .fits .act
 
-    pub both-less : length s - x .next + (length d - y .next) < length s - i + (length d - j)
-    both-less =
-        let f = read-s .fits in
-        let g = read-d .fits in
-        omega (arith, f .ahead, f .ready .within, g .ahead, g .ready .within)
-
     module _ (v : Part) (e : v ≡ valuePlace (x .act)) (r : Bool) (f : r ≡ fits bytes (some (partIn s v)) (changeIn d d (y .act))) where
       same-key : keyIn d (y .key) ≡ heldItem s i x read-s .key
       same-key = sym ((rw q at (h .is)) .2) ∙ held-key s i x read-s
@@ -319,22 +351,99 @@ module _ (s d : Bytes) (i j : ℕ) (m : Fitting s d i j) (t : Turn) (h : TurnIs 
       fits-it : r ≡ fits bytes (some (heldItem s i x read-s .val)) (changeIn d d (y .act))
       fits-it = f ∙ ap (λ (w : Bytes). fits bytes (some w) (changeIn d d (y .act))) (ap (partIn s) e ∙ held-value s i x read-s)
 
-      pub held-stops : not r ≡ true → fit.Misfit j ≡ fitOf s d
-      held-stops z = sym (stops d j y read-d (items (drop i s)) (some (heldItem s i x read-s .val)) is-held r fits-it z) ∙ m .left
+      pub held-stops : not r ≡ true → FitStepIs s i d j fit-step.Misfit
+      held-stops z = record { is = stops d j y read-d (items (drop i s)) (some (heldItem s i x read-s .val)) is-held r fits-it z }
 
       behind : Below bytes (heldItem s i x read-s .key) (changes (drop (y .next) d)) × Sorted bytes (changes (drop (y .next) d))
       behind =
           let z : Sorted bytes (itemIn d d (y .key) (y .act) ∷ changes (drop (y .next) d)) = subst (Sorted bytes) (read-d .is) sorted-d in
           (subst (λ (k : Bytes). Below bytes k (changes (drop (y .next) d))) same-key (z .0), z .1)
 
-      pub held-again : not r ≡ false → Fitting s d (x .next) (y .next)
+      pub held-again : not r ≡ false → FitStepIs s i d j (fit-step.On (x .next) (y .next))
       unfolding entries
-      held-again z = record {
-        ready-s = read-s .fits .ready;
-        ready-d = read-d .fits .ready;
-        left = sym (misfit-past (heldItem s i x read-s) (items (drop (x .next) s)) (y .next) (cells (drop (y .next) d)) (behind .0) (behind .1))
-            ∙ ap (λ (A : change.Snapshot Bytes Bytes). misfit A (y .next) (cells (drop (y .next) d))) (sym (items-are s i x read-s))
-            ∙ sym (goes-on d j y read-d (items (drop i s)) (some (heldItem s i x read-s .val)) is-held r fits-it z) ∙ m .left;
-      }
+      held-again z =
+          let u = read-s .fits in
+          let w = read-d .fits in
+          record {
+            is = (
+              record {
+                pairs = record { ready-s = u .ready; ready-d = w .ready };
+                same = goes-on d j y read-d (items (drop i s)) (some (heldItem s i x read-s .val)) is-held r fits-it z
+                    ∙ ap (λ (A : change.Snapshot Bytes Bytes). misfit A (y .next) (cells (drop (y .next) d))) (items-are s i x read-s)
+                    ∙ misfit-past (heldItem s i x read-s) (items (drop (x .next) s)) (y .next) (cells (drop (y .next) d)) (behind .0) (behind .1);
+                on-s = omega (arith, u .ahead);
+                on-d = omega (arith, w .ahead);
+              },
+              omega (arith, u .ahead, w .ahead),
+            );
+          }
 
-pub ruleset fitting = (fitting-start, fits-all, fits-rest, pass-held, pass-held-less, absent-stops, absent-again, absent-less, both-value, both-change, both-less, held-stops, held-again)
+pub ruleset turns = (pairs-left, pairs-right, fit-over, pass-held, absent-stops, absent-again, both-value, both-change, held-stops, held-again)
+
+-- ---- fit_step
+
+module _ (s : Bytes) (i : ℕ) (d : Bytes) (j : ℕ) (t : FitStep) (h : FitStepIs s i d j t) where
+  pub step-over : (w : Side) → t ≡ fit-step.Over w → FitStepIs s i d j (fit-step.Over w)
+  step-over w e = rw e at h
+
+  pub step-misfit : t ≡ fit-step.Misfit → FitStepIs s i d j fit-step.Misfit
+  step-misfit e = rw e at h
+
+  module _ (p q : ℕ) (e : t ≡ fit-step.On p q) where
+    went : Onward s i d j p q × (i + j < p + q)
+    went = rw e at (h .is)
+
+    pub step-pairs : Pairs s p d q
+    step-pairs = went .0 .pairs
+
+    pub step-on : (r : ℕ) → Past s p d q r → FitStepIs s i d j (fit-step.On r q)
+    step-on r k =
+        let w = went in
+        record {
+          is = (
+            record { pairs = k .pairs; same = w .0 .same ∙ k .same; on-s = omega (arith, w .0 .on-s, k .on-s); on-d = w .0 .on-d },
+            omega (arith, w .1, k .on-s),
+          );
+        }
+
+pub ruleset steps = (step-over, step-misfit, step-pairs, step-on)
+
+-- ---- first_misfit
+
+pub record Fitting (s d : Bytes) (i j : ℕ) : Type 0 where
+  pub pairs : Pairs s i d j
+  pub left : misfit (items (drop i s)) j (cells (drop j d)) ≡ fitOf s d
+
+pub fitting-start : (s d : Bytes) → Pairs s 0 d 0 → Fitting s d 0 0
+fitting-start s d p = record { pairs = p; left = refl }
+
+module _ (s d : Bytes) (i j : ℕ) (m : Fitting s d i j) where
+  pub fitting-pairs : Pairs s i d j
+  fitting-pairs = m .pairs
+
+  pub fitting-rest : Ready Changes d j
+  fitting-rest = m .pairs .ready-d
+
+  module _ (t : FitStep) (h : FitStepIs s i d j t) where
+    module _ (w : Side) (q : t ≡ fit-step.Over w) where
+      pub fits-all : w ≡ side.Left → fit.All ≡ fitOf s d
+      fits-all e =
+          let z : changes (drop j d) ≡ [] = rw (q, e) at (h .is) in
+          sym (ap (misfit (items (drop i s)) j) (no-cells (drop j d) z) ∙ misfit-nil (items (drop i s)) j) ∙ m .left
+
+      pub fits-rest : w ≡ side.Right → (r : Fit) → r ≡ misfit [] j (cells (drop j d)) → r ≡ fitOf s d
+      fits-rest e r f =
+          let z : items (drop i s) ≡ [] = rw (q, e) at (h .is) in
+          f ∙ ap (λ (A : change.Snapshot Bytes Bytes). misfit A j (cells (drop j d))) (sym z) ∙ m .left
+
+    pub fits-not : t ≡ fit-step.Misfit → fit.Misfit j ≡ fitOf s d
+    fits-not q = sym (rw q at (h .is)) ∙ m .left
+
+    module _ (p q : ℕ) (e : t ≡ fit-step.On p q) where
+      pub fits-again : Fitting s d p q
+      fits-again = let w = (rw e at (h .is)) in record { pairs = w .0 .pairs; left = sym (w .0 .same) ∙ m .left }
+
+      pub fits-less : length s - p + (length d - q) < length s - i + (length d - j)
+      fits-less = let w = (rw e at (h .is)) in omega (arith, w .0 .on-s, w .0 .on-d, w .1, w .0 .pairs .ready-s .within, w .0 .pairs .ready-d .within)
+
+pub ruleset fitting = (fitting-start, fitting-pairs, fitting-rest, fits-all, fits-rest, fits-not, fits-again, fits-less)

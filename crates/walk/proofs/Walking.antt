@@ -269,8 +269,7 @@ one-wrote : (form : Form) (ra : Reading) (a : Bytes) (i : ℕ) (rb : Reading) (b
     Wrote form ra a i rb b j c o o′ p q c′ × (i + j < p + q)
 one-wrote form ra a i rb b j c o c′ o′ s key act k f p q e ec eo x y u v h =
     let n = one-small form s s key act k f in
-    let w = writes-one form c (itemIn s s key act) in
-    (
+    let w = writes-one form c (itemIn s s key act) in (
       record {
         written = itemIn s s key act ∷ [];
         is = e;

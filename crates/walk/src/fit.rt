@@ -1,4 +1,6 @@
 // Whether a delta can be applied to a snapshot: the first item that cannot is named.
+use crate::seek::bound_at;
+use crate::seek::seek;
 use crate::turn::Side;
 use crate::turn::Turn;
 use crate::turn::take_turn;
@@ -19,7 +21,7 @@ ghost use Rattle.change.specs.Application.{fits, isEqual};
 ghost use Rattle.field.specs.Cells.{cells};
 ghost use Rattle.item.specs.Place.{partIn, changeIn, PartFits, ActFits};
 ghost use Rattle.item.specs.Reading.{Ready};
-ghost use Rattle.walk.specs.Fit.{misfit, absentPlace, valuePlace, fitOf};
+ghost use Rattle.walk.specs.Fit.{misfit, absentPlace, valuePlace, fitOf, Pairs, Past, FitStepIs};
 
 pub enum Fit {
     All,
@@ -94,34 +96,77 @@ fn fit_rest(delta: &[u8], from: usize) -> Fit
     }
 }
 
+// Past what the snapshot has from i on below the delta's item at j.
+fn pass_below(snapshot: &[u8], i: usize, delta: &[u8], j: usize) -> usize
+    requires { ⌜ Pairs (now snapshot) i (now delta) j ⌝ }
+    ensures { λ r. ⌜ Past (now (snapshot .entry)) i (now (delta .entry)) j r ⌝ }
+{
+    let run = seek(snapshot, i, bound_at(delta, j));
+    run.at
+}
+
+// Where the comparison stands after a turn.
+pub enum FitStep {
+    // One side has run out; this one may still have fields.
+    Over(Side),
+    // The delta's item cannot be applied.
+    Misfit,
+    // Both places.
+    On(usize, usize),
+}
+
+// One turn: the item of the snapshot at i, that of the delta at j, or both.
+fn fit_turn(snapshot: &[u8], i: usize, delta: &[u8], j: usize) -> FitStep
+    requires { ⌜ Pairs (now snapshot) i (now delta) j ⌝ }
+    ensures { λ r. ⌜ FitStepIs (now (snapshot .entry)) i (now (delta .entry)) j r ⌝ }
+{
+    match take_turn(Reading::Announced, snapshot, i, Reading::Changes, delta, j) {
+        Turn::Over(side) => FitStep::Over(side),
+        Turn::Left(x) => FitStep::On(x.next, j),
+        Turn::Right(y) => {
+            let change = y.act;
+            if !fits_absent(change) {
+                return FitStep::Misfit;
+            }
+            FitStep::On(i, y.next)
+        }
+        Turn::Both(x, y) => {
+            let held = x.act;
+            let change = y.act;
+            if !fits_held(snapshot, value_of(held), delta, change) {
+                return FitStep::Misfit;
+            }
+            FitStep::On(x.next, y.next)
+        }
+    }
+}
+
+// One turn, and behind it past what the snapshot has below the delta's next item.
+fn fit_step(snapshot: &[u8], i: usize, delta: &[u8], j: usize) -> FitStep
+    requires { ⌜ Pairs (now snapshot) i (now delta) j ⌝ }
+    ensures { λ r. ⌜ FitStepIs (now (snapshot .entry)) i (now (delta .entry)) j r ⌝ }
+{
+    match fit_turn(snapshot, i, delta, j) {
+        FitStep::Over(side) => FitStep::Over(side),
+        FitStep::Misfit => FitStep::Misfit,
+        FitStep::On(p, q) => FitStep::On(pass_below(snapshot, p, delta, q), q),
+    }
+}
+
 // The first item of a good delta that cannot be applied to a good snapshot.
 pub fn first_misfit(snapshot: &[u8], delta: &[u8]) -> Fit
-    requires { ⌜ Ready Reading.Announced (now snapshot) 0 × Ready Reading.Changes (now delta) 0 ⌝ }
+    requires { ⌜ Pairs (now snapshot) 0 (now delta) 0 ⌝ }
     ensures { λ r. ⌜ r ≡ fitOf (now (snapshot .entry)) (now (delta .entry)) ⌝ }
 {
     let mut i = 0;
     let mut j = 0;
     let side = loop {
-        match take_turn(Reading::Announced, snapshot, i, Reading::Changes, delta, j) {
-            Turn::Over(side) => break side,
-            Turn::Left(x) => {
-                i = x.next;
-            }
-            Turn::Right(y) => {
-                let change = y.act;
-                if !fits_absent(change) {
-                    return Fit::Misfit { at: j };
-                }
-                j = y.next;
-            }
-            Turn::Both(x, y) => {
-                let held = x.act;
-                let change = y.act;
-                if !fits_held(snapshot, value_of(held), delta, change) {
-                    return Fit::Misfit { at: j };
-                }
-                i = x.next;
-                j = y.next;
+        match fit_step(snapshot, i, delta, j) {
+            FitStep::Over(side) => break side,
+            FitStep::Misfit => return Fit::Misfit { at: j },
+            FitStep::On(p, q) => {
+                i = p;
+                j = q;
             }
         }
     };
