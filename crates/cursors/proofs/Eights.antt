@@ -6,7 +6,8 @@ use native.Mathlib.Omega.{arith}
 use native.Mathlib.Decide.{ℕ-discrete, decLe}
 use lib.ListN.{length, getD, set, length-set}
 use lib.Seq.{getD-set-same, getD-set-other}
-use Rattle.cursors.specs.Front.{top, Sits, nowhere, on, Lowest, Blocks, Finds, Settled}
+use Rattle.item.specs.Front.{top}
+use Rattle.cursors.specs.Front.{Sits, nowhere, on, Lowest, Blocks, Finds, Settled}
 
 -- ---- of_two, of_four, of_eight
 

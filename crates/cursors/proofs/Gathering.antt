@@ -31,7 +31,8 @@ use Rattle.item.specs.Place.{changeIn, heldIn, KeyIn, ActFits, Holds}
 use Rattle.cursors.specs.declared.gather.Said.{Said}
 use Rattle.cursors.specs.declared.gather.Said.the-variants as said
 use Rattle.cursors.specs.Cursor.{D, run, runsN, runs, Stands, Within, Heads, HeldAt, ChangeFits, Says, Gathered}
-use Rattle.cursors.specs.Front.{frontKey, frontOf, Fronts, Blocks, Finds, Settled, Fronted, lined, line, Meets, OnePlace, Advances, Advanced, Takes, Taken}
+use Rattle.item.specs.Front.{frontKey}
+use Rattle.cursors.specs.Front.{frontOf, Fronts, Blocks, Finds, Settled, Fronted, lined, line, Meets, OnePlace, Advances, Advanced, Takes, Taken}
 use Rattle.cursors.proofs.Lowering.{head-end, head-is, head-fits, runs-cons, runs-nil}
 
 -- ---- join

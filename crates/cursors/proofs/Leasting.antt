@@ -19,9 +19,10 @@ use Rattle.payload.specs.Content.{Bytes}
 use Rattle.cursors.specs.declared.least.Found.{Found}
 use Rattle.cursors.specs.declared.least.Found.the-variants.{Nothing, At}
 use Rattle.cursors.specs.Cursor.{D, run, runsN, runs, Stands, Within, keyFound, FoundIn, latest, Below, Least}
-use Rattle.cursors.specs.Front.{frontKey, frontOf, top, HeadBytes, Fronts, Sits, nowhere, on, Blocks, Finds, Fronted, line, FoundLow, Looks, LeastBy}
+use Rattle.item.specs.Front.{frontKey, top}
+use Rattle.cursors.specs.Front.{frontOf, HeadBytes, Fronts, Sits, nowhere, on, Blocks, Finds, Fronted, line, FoundLow, Looks, LeastBy}
 use Rattle.cursors.proofs.Lowering.{runs-cons, runs-nil}
-use Rattle.cursors.proofs.Fronting.{front-less, front-greater}
+use Rattle.item.proofs.Fronts.{front-less, front-greater}
 use Rattle.cursors.proofs.Eights.{all-under, all-sits}
 
 -- ---- one run

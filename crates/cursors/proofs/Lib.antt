@@ -1,7 +1,6 @@
 pub mod Standing
 pub mod Lowering
 pub mod Fronting
-pub mod Ranking
 pub mod Eights
 pub mod Lining
 pub mod Leasting

@@ -7,7 +7,8 @@ use native.Mathlib.Decide.{ℕ-discrete, decLe}
 use lib.ListN.{length, getD, replicate, length-replicate, getD-replicate}
 use Rattle.payload.specs.Content.{Bytes}
 use Rattle.cursors.specs.Cursor.{Stands, Within}
-use Rattle.cursors.specs.Front.{top, Fronts, nowhere, Blocks, Settled, Fronted, lined, line}
+use Rattle.item.specs.Front.{top}
+use Rattle.cursors.specs.Front.{Fronts, nowhere, Blocks, Settled, Fronted, lined, line}
 
 pub record Lining (s : Bytes) (at ends : List ℕ) (from n : ℕ) (f : List ℕ) (r : ℕ) : Type 0 where
   pub within : Within s at ends n

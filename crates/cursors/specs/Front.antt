@@ -12,22 +12,13 @@ use Rattle.field.specs.Places.{keyIn}
 use Rattle.field.specs.Run.{AllBytes}
 use Rattle.payload.specs.Content.{Bytes}
 use Rattle.item.specs.declared.place.Held.{Held}
-use Rattle.item.specs.Front.{packs, frontKey, top}
+use Rattle.item.specs.Front.{frontKey, top}
 use Rattle.item.specs.Place.{heldIn, Holds, KeyIn}
 use Rattle.cursors.specs.declared.least.Found.{Found}
 use Rattle.cursors.specs.declared.least.Found.the-variants as found
 use Rattle.cursors.specs.Cursor.{D, run, Stands, Within, HeldAt, Least}
 
 -- ---- one front
-
--- four bytes as one number
-abbrev pub quadAt : Bytes → ℕ → ℕ
-quadAt s i = getD s i 0 * 16777216 + getD s (i + 1) 0 * 65536 + getD s (i + 2) 0 * 256 + getD s (i + 3) 0
-
--- a part of s
-pub record Ranked (s : Bytes) (from to : ℕ) : Type 0 where
-  pub ordered : from ≤ to
-  pub within : to ≤ length s
 
 abbrev pub frontOf : D → ℕ
 frontOf [] = top

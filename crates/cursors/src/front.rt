@@ -9,7 +9,8 @@ ghost use lib.ListN.{length, getD};
 ghost use Rattle.field.specs.Places.{part, keyIn};
 ghost use Rattle.item.specs.Place.{KeyIn};
 ghost use Rattle.cursors.specs.Cursor.{Stands};
-ghost use Rattle.cursors.specs.Front.{frontKey, Fronts};
+ghost use Rattle.item.specs.Front.{frontKey};
+ghost use Rattle.cursors.specs.Front.{Fronts};
 
 // A byte as a wider number.
 pub(crate) fn broad(x: u8) -> u64

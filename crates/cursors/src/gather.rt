@@ -3,8 +3,8 @@ use crate::cursor::item_at;
 use crate::front::front_at;
 use crate::lows::find;
 use crate::lows::settle;
-use crate::rank::rank;
 use field::key::Key;
+use field::key::key_compare;
 use item::place::Act;
 use item::place::Held;
 use item::reading::Read;
@@ -63,7 +63,7 @@ fn ask(store: &[u8], p: usize, e: usize, k: Key) -> Said
         let act = x.act;
         return Said::Change(act, x.next);
     }
-    match rank(store, k, key) {
+    match key_compare(store, k, store, key) {
         Ordering::Less => Said::Nothing,
         Ordering::Greater => Said::Nothing,
         Ordering::Equal => {

@@ -1,8 +1,8 @@
 // The least key at which any cursor stands.
 use crate::cursor::item_at;
 use crate::lows::find;
-use crate::rank::rank;
 use field::key::Key;
+use field::key::key_compare;
 use item::reading::Read;
 use order::Ordering;
 ghost use Rattle.cursors.specs.Cursor.{Stands, FoundIn, Below};
@@ -25,7 +25,7 @@ fn below(store: &[u8], best: Found, p: usize, e: usize) -> Found
     let Found::At(k) = best else {
         return Found::At(key);
     };
-    match rank(store, k, key) {
+    match key_compare(store, k, store, key) {
         Ordering::Less => Found::Nothing,
         Ordering::Equal => Found::Nothing,
         Ordering::Greater => Found::At(key),

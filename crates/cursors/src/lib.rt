@@ -6,4 +6,3 @@ pub mod gather;
 pub mod least;
 pub mod lows;
 pub mod next;
-pub mod rank;

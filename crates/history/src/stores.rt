@@ -1,8 +1,8 @@
 // The two lent stores: the current snapshot, and the deltas one behind the other.
 use field::tag::Form;
+use item::copy::copy;
 use item::place::Part;
 use item::reading::Reading;
-use item::copy::copy;
 use walk::walk::put_merge;
 ghost use mathlib.Core.Path.{_≡_};
 ghost use mathlib.Core.List.{_++_};

@@ -21,8 +21,8 @@ is-place-requires c κs = search (asking, needs)
 returns-2 : tie.Need-returns-2
 returns-2 c = search (asking, needs)
 
-rank-requires : tie.Need-rank-requires
-rank-requires c κs = search (asking, needs)
+key-compare-requires : tie.Need-key-compare-requires
+key-compare-requires c κs = search (asking, needs)
 
 enum-told-2 : tie.Need-enum-told-2
 enum-told-2 c = search (asking, needs)
@@ -52,7 +52,7 @@ ask-spec =
     returns
     is-place-requires
     returns-2
-    rank-requires
+    key-compare-requires
     enum-told-2
     enum-told-3
     enum-told-4

@@ -24,8 +24,8 @@ enum-told-2 c = search (lowering, needs)
 returns-2 : tie.Need-returns-2
 returns-2 c = search (lowering, needs)
 
-rank-requires : tie.Need-rank-requires
-rank-requires c κs = search (lowering, needs)
+key-compare-requires : tie.Need-key-compare-requires
+key-compare-requires c κs = search (lowering, needs)
 
 enum-told-3 : tie.Need-enum-told-3
 enum-told-3 c = search (lowering, needs)
@@ -56,7 +56,7 @@ below-spec =
     enum-known-best
     enum-told-2
     returns-2
-    rank-requires
+    key-compare-requires
     enum-told-3
     enum-told-4
     enum-told-5
