@@ -24,10 +24,6 @@ fourAt s i = four (getD s i 0) (getD s (i + 1) 0) (getD s (i + 2) 0) (getD s (i 
 unfoldable pub wordAt : List ℕ → ℕ → ℕ
 wordAt s i = fourAt s i * 4_294_967_296 + fourAt s (i + 4)
 
--- the number of the seven bytes at i
-unfoldable pub sevenAt : List ℕ → ℕ → ℕ
-sevenAt s i = fourAt s i * 16_777_216 + (getD s (i + 4) 0 * 65_536 + getD s (i + 5) 0 * 256 + getD s (i + 6) 0)
-
 -- the AS number at i
 abbrev pub asnAt : List ℕ → ℕ → Asn
 asnAt s i = record { 0 = fourAt s i }

@@ -1,15 +1,13 @@
 -- How far a check has come.
-use Prim.Native.Nat.{ℕ, _+_, _-_, _<_, _≤_}
+use Prim.Native.Nat.{ℕ, _-_, _<_, _≤_}
 use mathlib.Core.Path.{_≡_}
 use mathlib.Core.List.{List}
 use mathlib.Core.Bool.{Bool, true}
-use lib.ListN.{length, getD, drop}
+use lib.ListN.{length, drop}
 use Rattle.field.specs.declared.key.Key.{Key}
 use Rattle.field.specs.declared.tag.Form.{Form}
-use Rattle.field.specs.declared.head.Field.the-variants.{Whole}
 use Rattle.field.specs.declared.verdict.Stand.{Stand}
-use Rattle.field.specs.Tag.{kindOf}
-use Rattle.field.specs.Places.{fieldAt, keyIn}
+use Rattle.field.specs.Places.{keyIn}
 use Rattle.field.specs.Verdict.{verdictF, verdict}
 
 -- what the check has found at `at`, behind the key k: the rest decides
@@ -23,19 +21,13 @@ pub record Judged (form : Form) (s : List ℕ) (at : ℕ) (k : Key) : Type 0 whe
 abbrev pub originKey : ℕ → Key
 originKey at = record { kind = 1; from = at - 23; to = at }
 
+-- behind an origin that ends at `at`
+abbrev pub behindOrigin : ℕ → Stand
+behindOrigin at = record { at = at; before = originKey at }
+
 -- a yes is right, a no decides nothing
 pub record If (r : Bool) (P : Type 0) : Type 0 where
   pub holds : r ≡ true → P
-
--- at `at` stands the head of an origin, with a body of 23 bytes
-pub record OriginHead (form : Form) (s : List ℕ) (at : ℕ) : Type 0 where
-  pub reads : Whole (getD s at 0) (at + 3) (at + 26) ≡ fieldAt s at
-  pub kind : kindOf form (getD s at 0) ≡ 1
-
--- the check has come from `from` to a place behind good origins
-pub record Passes (form : Form) (s : List ℕ) (from to : ℕ) : Type 0 where
-  pub on : from ≤ to
-  pub judged : Judged form s to (originKey to)
 
 -- the check has come further
 pub record Further (form : Form) (s : List ℕ) (from : ℕ) (r : Stand) : Type 0 where

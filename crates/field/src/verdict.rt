@@ -4,21 +4,17 @@ use crate::head::field_at;
 use crate::key::Key;
 use crate::key::key_at;
 use crate::key::key_compare;
-use crate::number::two_at;
 use crate::tag::Form;
 use crate::tag::body_ok;
 use crate::tag::kind_of;
-use crate::words::Words;
-use crate::words::words_below;
-use crate::words::words_of;
-use crate::words::words_ok;
+use crate::words::next_words;
+use crate::words::words_at;
 use order::Ordering;
 ghost use mathlib.Core.Path.{_≡_};
-ghost use Prim.Native.Nat.{_+_, _≤_};
+ghost use Prim.Native.Nat.{_≤_};
 ghost use lib.ListN.{length};
 ghost use Rattle.field.specs.Verdict.{verdict};
-ghost use Rattle.field.specs.Words.{nextWords};
-ghost use Rattle.field.specs.Progress.{Judged, originKey, If, OriginHead, Passes, Further};
+ghost use Rattle.field.specs.Progress.{Judged, originKey, behindOrigin, Further};
 
 // What the check finds: nothing, or the first bad field, by its offset.
 pub enum Verdict {
@@ -35,52 +31,40 @@ pub struct Stand {
     pub before: Key,
 }
 
-// Whether at `at` stands the head of an origin. A no decides nothing.
-fn origin_head(form: Form, s: &[u8], at: usize) -> bool
-    requires { ⌜ at + 26 ≤ length (now s) ⌝ }
-    ensures { λ r. ⌜ If r (OriginHead form (now (s .entry)) at) ⌝ }
+// Behind an origin that ends at `at`.
+fn behind_origin(at: usize) -> Stand
+    requires { ⌜ 23 ≤ at ⌝ }
+    ensures { λ r. ⌜ r ≡ behindOrigin at ⌝ }
 {
-    if kind_of(form, s[at]) != 1 {
-        return false;
-    }
-    if two_at(s, at + 1) != 23 {
-        return false;
-    }
-    true
+    let before = Key {
+        kind: 1,
+        from: at - 23,
+        to: at,
+    };
+    Stand { at, before }
 }
 
-// Whether a body is an origin's, and above another.
-fn next_words(before: Words, body: Words) -> bool
-    ensures { λ r. ⌜ r ≡ nextWords before body ⌝ }
+// Behind an origin that ends at `start`, past the good ascending origins but the last. The words of a field are read one
+// turn before they are judged: judged in the same turn they would be read byte by byte.
+fn pass_origins(form: Form, s: &[u8], start: usize) -> Stand
+    requires { ⌜ (26 ≤ start) × Judged form (now s) start (originKey start) ⌝ }
+    ensures { λ r. ⌜ Further form (now (s .entry)) start r ⌝ }
 {
-    if !words_ok(body) {
-        return false;
+    if s.len() - start < 26 {
+        return behind_origin(start);
     }
-    words_below(before, body)
-}
-
-// Behind an origin that ends at `start`, past the good ascending origins.
-fn pass_origins(form: Form, s: &[u8], start: usize) -> usize
-    requires { ⌜ (23 ≤ start) × Judged form (now s) start (originKey start) ⌝ }
-    ensures { λ r. ⌜ Passes form (now (s .entry)) start r ⌝ }
-{
-    let begin = start - 23;
-    let mut before = words_of(&s[begin..start]);
+    let mut before = words_at(s, start - 26);
+    let mut field = words_at(s, start);
     let mut at = start;
-    while 26 <= s.len() - at {
-        if !origin_head(form, s, at) {
-            return at;
+    while 52 <= s.len() - at {
+        if !next_words(form, before, field) {
+            return behind_origin(at);
         }
-        let from = at + 3;
-        let to = at + 26;
-        let body = words_of(&s[from..to]);
-        if !next_words(before, body) {
-            return at;
-        }
-        before = body;
+        before = field;
         at += 26;
+        field = words_at(s, at);
     }
-    at
+    behind_origin(at)
 }
 
 // Behind an origin past the good ascending origins; else nothing is passed.
@@ -94,22 +78,13 @@ fn pass(form: Form, s: &[u8], at: usize, before: Key) -> Stand
     if before.to != at {
         return Stand { at, before };
     }
-    if at < 23 {
+    if at < 26 {
         return Stand { at, before };
     }
     if before.from != at - 23 {
         return Stand { at, before };
     }
-    let to = pass_origins(form, s, at);
-    let last = Key {
-        kind: 1,
-        from: to - 23,
-        to,
-    };
-    Stand {
-        at: to,
-        before: last,
-    }
+    pass_origins(form, s, at)
 }
 
 // The check of a snapshot or a delta.

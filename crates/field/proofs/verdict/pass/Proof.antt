@@ -12,14 +12,14 @@ returns-2 c = search (standing, needs)
 returns-3 : tie.Need-returns-3
 returns-3 c = search (standing, needs)
 
+sub-if4 : tie.Need-sub-if4
+sub-if4 c = search (standing, needs)
+
 returns-4 : tie.Need-returns-4
 returns-4 c = search (standing, needs)
 
 pass-origins-requires : tie.Need-pass-origins-requires
 pass-origins-requires c κs = search (standing, needs)
-
-sub-t8 : tie.Need-sub-t8
-sub-t8 c = search (standing, needs)
 
 returns-5 : tie.Need-returns-5
 returns-5 c = search (standing, needs)
@@ -27,4 +27,4 @@ returns-5 c = search (standing, needs)
 pub pass-spec : {M : Type 1} → statement M
 pass-spec =
     tie.close
-    (tie.spec returns returns-2 returns-3 returns-4 pass-origins-requires sub-t8 returns-5)
+    (tie.spec returns returns-2 returns-3 sub-if4 returns-4 pass-origins-requires returns-5)
