@@ -48,7 +48,7 @@ pub fn lower(x: usize, y: usize) -> usize
 }
 
 // The four bytes at i as a number.
-fn four_at(s: &[u8], i: usize) -> usize
+pub(crate) fn four_at(s: &[u8], i: usize) -> usize
     requires { ⌜ i + 4 ≤ length (now s) ⌝ }
     ensures { λ r. ⌜ (r ≡ fourAt (now (s .entry)) i) × (r < 4294967296) ⌝ }
 {

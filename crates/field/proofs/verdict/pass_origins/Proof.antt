@@ -14,8 +14,11 @@ abbrev μ-loop : tie.MeasureT-loop
 sub-if1 : tie.Need-sub-if1 Inv-loop μ-loop
 sub-if1 c = search (passing, needs)
 
-behind-origin-requires : tie.Need-behind-origin-requires Inv-loop μ-loop
-behind-origin-requires c κs = search (passing, needs)
+sub-behind : tie.Need-sub-behind Inv-loop μ-loop
+sub-behind c = search (passing, needs)
+
+behind-requires : tie.Need-behind-requires Inv-loop μ-loop
+behind-requires c κs = search (passing, needs)
 
 returns : tie.Need-returns Inv-loop μ-loop
 returns c = search (passing, needs)
@@ -38,8 +41,11 @@ sub-loop c = search (passing, needs)
 next-words-requires : tie.Need-next-words-requires Inv-loop μ-loop
 next-words-requires c κs = search (passing, needs)
 
-behind-origin-requires-2 : tie.Need-behind-origin-requires-2 Inv-loop μ-loop
-behind-origin-requires-2 c κs = search (passing, needs)
+sub-behind-2 : tie.Need-sub-behind-2 Inv-loop μ-loop
+sub-behind-2 c = search (passing, needs)
+
+behind-requires-2 : tie.Need-behind-requires-2 Inv-loop μ-loop
+behind-requires-2 c κs = search (passing, needs)
 
 returns-2 : tie.Need-returns-2 Inv-loop μ-loop
 returns-2 c = search (passing, needs)
@@ -56,8 +62,11 @@ loop-less c = search (passing, needs)
 loop-again : tie.Need-loop-again Inv-loop μ-loop
 loop-again c = search (passing, needs)
 
-behind-origin-requires-3 : tie.Need-behind-origin-requires-3 Inv-loop μ-loop
-behind-origin-requires-3 c κs = search (passing, needs)
+sub-behind-3 : tie.Need-sub-behind-3 Inv-loop μ-loop
+sub-behind-3 c = search (passing, needs)
+
+behind-requires-3 : tie.Need-behind-requires-3 Inv-loop μ-loop
+behind-requires-3 c κs = search (passing, needs)
 
 returns-3 : tie.Need-returns-3 Inv-loop μ-loop
 returns-3 c = search (passing, needs)
@@ -69,7 +78,8 @@ pass-origins-spec =
     Inv-loop
     μ-loop
     sub-if1
-    behind-origin-requires
+    sub-behind
+    behind-requires
     returns
     sub-words-at
     words-at-requires
@@ -77,11 +87,13 @@ pass-origins-spec =
     loop-holds
     sub-loop
     next-words-requires
-    behind-origin-requires-2
+    sub-behind-2
+    behind-requires-2
     returns-2
     add-at
     words-at-requires-3
     loop-less
     loop-again
-    behind-origin-requires-3
+    sub-behind-3
+    behind-requires-3
     returns-3)
