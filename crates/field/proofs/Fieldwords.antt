@@ -2,10 +2,10 @@
 use Prim.Native.Nat.{ℕ, _+_, _-_, _*_, _/_, _%_, _^_, _<_, _≤_}
 use mathlib.Core.Path.{_≡_, refl, sym, ap, _∙_}
 use mathlib.Core.List.{List}
-use mathlib.Core.Bool.{Bool, true, false, not, cond, _&&_, false≢true}
+use mathlib.Core.Bool.{Bool, true, false, not, cond, _&&_, _||_, false≢true}
 use native.Mathlib.Nat.{div-lt-iff-lt-mul}
 use native.Mathlib.Omega.{arith}
-use borrow.Author.Tests.{le-leb, lt-leb, eq-eqb, not-false}
+use borrow.Author.Tests.{le-leb, lt-leb, eq-eqb, ne-eqb, eqb-true, not-false}
 use mir.Syntax.{w8, w64}
 use mir.Val.{Fits}
 use lib.Dec.{leb, ltb, eqb}
@@ -19,12 +19,13 @@ use Rattle.field.specs.declared.head.Field.the-variants.{Whole}
 use Rattle.field.specs.declared.tag.Form.{Form}
 use Rattle.field.specs.declared.tag.Form.the-variants.{Snapshot, Delta}
 use Rattle.field.specs.declared.words.Words.{Words}
+use Rattle.field.specs.declared.words.Heads.{Heads}
 use Rattle.field.specs.Number.{twoAt, fourAt, wordAt}
 use Rattle.field.specs.Origin.{family, prefixLength, maximumLength, address, clean, goodPrefix, goodOrigin}
 use Rattle.field.specs.Tag.{tagOf, kindOf}
 use Rattle.field.specs.Places.{part, fieldAt}
 use Rattle.field.specs.Verdict.{isLess}
-use Rattle.field.specs.Words.{wordsAt, OriginFirst, cleanHalves, familyIn, prefixIn, maximumIn, highIn, lowIn, goodLengths, goodWords, belowWords, NextWords}
+use Rattle.field.specs.Words.{wordsAt, headsOf, hasHead, cleanHalves, familyIn, prefixIn, maximumIn, highIn, lowIn, goodLengths, goodWords, belowWords, NextWords}
 use Rattle.field.specs.Progress.{If}
 use Rattle.field.proofs.Eights.{Octets, digits, two-digits, word-digits, part-bytes, part-digits, digits-decide, word-read}
 use Rattle.field.proofs.Fields.{field-whole}
@@ -36,25 +37,23 @@ unsure P = record { holds = λ e. absurd (false≢true e) }
 
 -- ---- the functions of words
 
-module _ (form : Form) (first : ℕ) where
-  head-is : (tag : ℕ) → kindOf form tag ≡ 1 → first / 1_099_511_627_776 ≡ tag * 65_536 + 23 → If true (OriginFirst form first)
-  head-is tag k e =
-      let z : first / 72_057_594_037_927_936 ≡ tag = omega arith in
-      record { holds = λ y. record { kind = rw z k; size = omega arith } }
+module _ (form : Form) where
+  pub heads-held : form ≡ Snapshot → _≡_ {A = Heads} (record { one = 0x010017; other = 0x010017 }) (headsOf form)
+  heads-held e = rw e
 
-  pub head-held : form ≡ Snapshot → first / 1_099_511_627_776 ≡ 0x010017 → If true (OriginFirst form first)
-  unfolding kindOf tagOf
-  head-held f e = head-is 0x01 (rw f) e
+  pub heads-changed : form ≡ Delta → _≡_ {A = Heads} (record { one = 0x110017; other = 0x120017 }) (headsOf form)
+  heads-changed e = rw e
 
-  pub head-announced : form ≡ Delta → first / 1_099_511_627_776 ≡ 0x110017 → If true (OriginFirst form first)
-  unfolding kindOf tagOf
-  head-announced f e = head-is 0x11 (rw f) e
+  module _ (first : ℕ) (heads : Heads) (e : heads ≡ headsOf form) where
+    pub head-one : first / 1_099_511_627_776 ≡ heads .one → true ≡ hasHead (headsOf form) first
+    unfolding hasHead
+    head-one d = rw (← e, eq-eqb (first / 1_099_511_627_776) (heads .one) d)
 
-  pub head-withdrawn : form ≡ Delta → first / 1_099_511_627_776 ≡ 0x120017 → If true (OriginFirst form first)
-  unfolding kindOf tagOf
-  head-withdrawn f e = head-is 0x12 (rw f) e
+    pub head-other : (first / 1_099_511_627_776 ≡ heads .one → ⊥) → eqb (first / 1_099_511_627_776) (heads .other) ≡ hasHead (headsOf form) first
+    unfolding hasHead
+    head-other n = rw (← e, ne-eqb (first / 1_099_511_627_776) (heads .one) n)
 
-pub ruleset heads = (unsure, head-held, head-announced, head-withdrawn)
+pub ruleset heading = (heads-held, heads-changed, head-one, head-other)
 
 -- half a word above half of another
 pub half-fits : (x y : ℕ) → Fits w64 y → Fits w64 (x % 4_294_967_296 * 4_294_967_296 + y / 4_294_967_296)
@@ -152,11 +151,11 @@ module _ (p q : Words) where
 
 pub ruleset lowering = (below-one, above-one, below-two, above-two, below-three, above-three, below-last)
 
-pub next-below : (form : Form) (before field : Words) (b : Bool) → If b (OriginFirst form (field .first)) → not b ≡ false
+pub next-below : (form : Form) (before field : Words) (b : Bool) → b ≡ hasHead (headsOf form) (field .first) → not b ≡ false
     → (g : Bool) → If g (goodWords field ≡ true) → not g ≡ false → (r : Bool) → r ≡ belowWords before field → If r (NextWords form before field)
 next-below form before field b i t g j u r q =
     record {
-      holds = λ y. record { head = i .holds (not-false b t); good = j .holds (not-false g u); above = sym q ∙ y };
+      holds = λ y. record { head = sym i ∙ not-false b t; good = j .holds (not-false g u); above = sym q ∙ y };
     }
 
 pub ruleset nexting = (unsure, next-below)
@@ -288,6 +287,11 @@ module _ (s : List ℕ) (o : Octets s) (at : ℕ) (h : at + 26 ≤ length s) whe
       let z4 : at + 3 + 4 ≡ at + 4 + 3 = omega arith in
       d ∙ rw (e, f, z0, z1, z2, z3, z4) (omega (arith, o (at + 3) .fits))
 
+  -- it has the head of an origin
+  pub record OriginHead (form : Form) : Type 0 where
+    pub kind : kindOf form (getD s at 0) ≡ 1
+    pub reads : Whole (getD s at 0) (at + 3) (at + 26) ≡ fieldAt s at
+
   -- the words of the body are its numbers of 5, 8, 8 and 2 bytes
   pub record Numbers : Type 0 where
     pub one : w .first % 1_099_511_627_776 ≡ digits 5 body 0
@@ -304,18 +308,34 @@ module _ (s : List ℕ) (o : Octets s) (at : ℕ) (h : at + 26 ≤ length s) whe
         four = two-digits s (at + 24) ∙ body-digits 2 21 (at + 24) (omega arith) (omega arith);
       }
 
-  -- what the words of a good origin's field say of it
-  pub next-reads : (form : Form) (before : Words) → NextWords form before w → Whole (getD s at 0) (at + 3) (at + 26) ≡ fieldAt s at
-  next-reads form before n =
-      let e : 23 ≡ twoAt s (at + 1) = sym (n .head .size) ∙ size-is in
+  -- its tag and length, by its head
+  head-is : (form : Form) (tag : ℕ) → kindOf form tag ≡ 1 → w .first / 1_099_511_627_776 ≡ tag * 65_536 + 23 → OriginHead form
+  head-is form tag k e =
+      let d : w .first / 72_057_594_037_927_936 ≡ tag = omega arith in
+      let n : w .first / 1_099_511_627_776 % 65_536 ≡ 23 = omega arith in
       let z : at + 3 + 23 ≡ at + 26 = omega arith in
-      rw z at (field-whole s at 23 (omega arith) (omega arith) e (omega arith))
+      record {
+        kind = rw (sym d ∙ tag-is) at k;
+        reads = rw z at (field-whole s at 23 (omega arith) (omega arith) (sym n ∙ size-is) (omega arith));
+      }
 
-  pub next-kind : (form : Form) (before : Words) → NextWords form before w → kindOf form (getD s at 0) ≡ 1
-  next-kind form before n = rw tag-is at (n .head .kind)
+  head-cases : (form : Form) (x y : Bool) → eqb (w .first / 1_099_511_627_776) (headsOf form .one) ≡ x → eqb (w .first / 1_099_511_627_776) (headsOf form .other) ≡ y
+      → x || y ≡ true → OriginHead form
+  unfolding kindOf tagOf
+  head-cases Snapshot true y d e f = head-is Snapshot 0x01 refl (eqb-true (w .first / 1_099_511_627_776) 0x010017 d)
+  head-cases Snapshot false true d e f = head-is Snapshot 0x01 refl (eqb-true (w .first / 1_099_511_627_776) 0x010017 e)
+  head-cases Delta true y d e f = head-is Delta 0x11 refl (eqb-true (w .first / 1_099_511_627_776) 0x110017 d)
+  head-cases Delta false true d e f = head-is Delta 0x12 refl (eqb-true (w .first / 1_099_511_627_776) 0x120017 e)
+  head-cases form false false d e f = absurd (false≢true f)
 
-  pub next-good : (form : Form) (before : Words) → NextWords form before w → goodOrigin body ≡ true
-  next-good form before n = sym words-good ∙ n .good
+  -- what the words of a good origin's field say of it
+  module _ (form : Form) (before : Words) (n : NextWords form before w) where
+    pub next-head : OriginHead form
+    unfolding hasHead
+    next-head = head-cases form (eqb (w .first / 1_099_511_627_776) (headsOf form .one)) (eqb (w .first / 1_099_511_627_776) (headsOf form .other)) refl refl (n .head)
+
+    pub next-good : goodOrigin body ≡ true
+    next-good = sym words-good ∙ n .good
 
 -- a first comparison, and what it leaves to others
 first-less : (x r q : Ordering) → (isLess r ≡ true → q ≡ Less) → isLess (orElse x r) ≡ true → orElse x q ≡ Less

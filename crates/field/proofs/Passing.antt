@@ -26,7 +26,7 @@ use Rattle.field.specs.Words.{wordsAt, NextWords}
 use Rattle.field.specs.Progress.{Judged, standBehind, If, GoodField, Reaches, Further}
 use Rattle.field.proofs.Eights.{Octets, digits, four-digits, part-bytes, part-digits, digits-decide}
 use Rattle.field.proofs.Fields.{whole-at, body-ordered, body-within}
-use Rattle.field.proofs.Fieldwords.{next-reads, next-kind, next-good, words-less}
+use Rattle.field.proofs.Fieldwords.{next-head, next-good, words-less}
 use Rattle.field.proofs.Judging.{judged-next}
 
 -- the rule of an origin's body
@@ -94,7 +94,8 @@ module _ (form : Form) (s : List ℕ) (start at : ℕ) (before field : Words) (l
         let x : at + 26 - 23 ≡ at + 3 = omega arith in
         let v : at + 26 - 26 ≡ at = omega arith in
         let n : NextWords form (wordsAt s (at - 26)) (wordsAt s at) = rw (l .behind, l .here) at (i .holds (not-false b t)) in
-        let kind = next-kind s o at room form (wordsAt s (at - 26)) n in
+        let head = next-head s o at room form (wordsAt s (at - 26)) n in
+        let kind = head .kind in
         let good = origin-body form (getD s at 0) (part s (at + 3) (at + 26)) kind ∙ next-good s o at room form (wordsAt s (at - 26)) n in
         let less : bytes (part s (at - 23) at) (part s (at + 3) (at + 26)) ≡ Less
         = rw (y, z) at (words-less s o (at - 26) at (omega arith) room (n .above)) in
@@ -102,7 +103,7 @@ module _ (form : Form) (s : List ℕ) (start at : ℕ) (before field : Words) (l
           origin = f;
           on = omega arith;
           room = omega arith;
-          judged = rw x (judged-next form s at (keyPlace 1 (at - 23) at) (l .judged) (Whole (getD s at 0) (at + 3) (at + 26)) (next-reads s o at room form (wordsAt s (at - 26)) n) (getD s at 0) (at + 3) (at + 26) refl true (sym good) refl 1 (sym kind) (record { kind = 1; from = at + 3; to = at + 26 }) refl Less (sym less) refl);
+          judged = rw x (judged-next form s at (keyPlace 1 (at - 23) at) (l .judged) (Whole (getD s at 0) (at + 3) (at + 26)) (head .reads) (getD s at 0) (at + 3) (at + 26) refl true (sym good) refl 1 (sym kind) (record { kind = 1; from = at + 3; to = at + 26 }) refl Less (sym less) refl);
           behind = rw v (l .here);
           here = e;
         }

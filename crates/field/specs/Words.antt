@@ -2,23 +2,28 @@
 use Prim.Native.Nat.{ℕ, _+_, _-_, _*_, _/_, _%_, _^_}
 use mathlib.Core.Path.{_≡_}
 use mathlib.Core.List.{List}
-use mathlib.Core.Bool.{Bool, true, cond, _&&_}
+use mathlib.Core.Bool.{Bool, true, cond, _&&_, _||_}
 use lib.Dec.{leb, eqb}
 use Rattle.order.specs.Comparison.{orElse, number}
 use Rattle.field.specs.declared.tag.Form.{Form}
+use Rattle.field.specs.declared.tag.Form.the-variants.{Snapshot, Delta}
 use Rattle.field.specs.declared.words.Words.{Words}
+use Rattle.field.specs.declared.words.Heads.{Heads}
 use Rattle.field.specs.Number.{twoAt, wordAt}
-use Rattle.field.specs.Tag.{kindOf}
 use Rattle.field.specs.Verdict.{isLess}
 
 -- the words of the field at `at`
 abbrev pub wordsAt : List ℕ → ℕ → Words
 wordsAt s at = record { first = wordAt s at; second = wordAt s (at + 8); third = wordAt s (at + 16); last = twoAt s (at + 24) }
 
--- the first word starts with the head of an origin: a tag of kind 1, and the length 23
-pub record OriginFirst (form : Form) (first : ℕ) : Type 0 where
-  pub kind : kindOf form (first / 72_057_594_037_927_936) ≡ 1
-  pub size : first / 1_099_511_627_776 % 65_536 ≡ 23
+-- the heads of the origins of a snapshot or of a delta: a tag of kind 1, and the length 23
+abbrev pub headsOf : Form → Heads
+headsOf Snapshot = record { one = 0x010017; other = 0x010017 }
+headsOf Delta = record { one = 0x110017; other = 0x120017 }
+
+-- the first word starts with one of the heads
+unfoldable pub hasHead : Heads → ℕ → Bool
+hasHead heads first = eqb (first / 1_099_511_627_776) (heads .one) || eqb (first / 1_099_511_627_776) (heads .other)
 
 -- the bits past a prefix of p bits of an address are zero, by its halves
 unfoldable pub cleanHalves : ℕ → ℕ → ℕ → Bool
@@ -60,6 +65,6 @@ belowWords p q =
 
 -- the field is a good origin's, and above the one before it
 pub record NextWords (form : Form) (before field : Words) : Type 0 where
-  pub head : OriginFirst form (field .first)
+  pub head : hasHead (headsOf form) (field .first) ≡ true
   pub good : goodWords field ≡ true
   pub above : belowWords before field ≡ true

@@ -8,7 +8,7 @@ ghost use mathlib.Core.Bool.{true};
 ghost use Prim.Native.Nat.{_+_, _≤_};
 ghost use lib.ListN.{length};
 ghost use Rattle.field.specs.Progress.{If};
-ghost use Rattle.field.specs.Words.{wordsAt, cleanHalves, OriginFirst, goodLengths, goodWords, belowWords, NextWords};
+ghost use Rattle.field.specs.Words.{wordsAt, headsOf, hasHead, cleanHalves, goodLengths, goodWords, belowWords, NextWords};
 
 // The eight bytes at 0, the eight at 8, the eight at 16 and the two at 24.
 pub struct Words {
@@ -31,28 +31,38 @@ pub(crate) fn words_at(s: &[u8], at: usize) -> Words
     }
 }
 
-// Whether a field starts with the head of an origin. A no decides nothing.
-fn head_ok(form: Form, first: usize) -> bool
-    ensures { λ r. ⌜ If r (OriginFirst form first) ⌝ }
+// The heads that an origin can have: a tag and the length 23.
+pub struct Heads {
+    pub one: usize,
+    pub other: usize,
+}
+
+// The heads of the origins of a snapshot or of a delta.
+fn heads_of(form: Form) -> Heads
+    ensures { λ r. ⌜ r ≡ headsOf form ⌝ }
 {
-    let head = first / 1099511627776;
     match form {
-        Form::Snapshot => {
-            if head == 0x010017 {
-                return true;
-            }
-            false
-        }
-        Form::Delta => {
-            if head == 0x110017 {
-                return true;
-            }
-            if head == 0x120017 {
-                return true;
-            }
-            false
-        }
+        Form::Snapshot => Heads {
+            one: 0x010017,
+            other: 0x010017,
+        },
+        Form::Delta => Heads {
+            one: 0x110017,
+            other: 0x120017,
+        },
     }
+}
+
+// Whether a field's first word starts with the head of an origin.
+fn head_ok(form: Form, first: usize) -> bool
+    ensures { λ r. ⌜ r ≡ hasHead (headsOf form) first ⌝ }
+{
+    let heads = heads_of(form);
+    let head = first / 1099511627776;
+    if head == heads.one {
+        return true;
+    }
+    head == heads.other
 }
 
 // Whether an address, by its halves, has no bit past a prefix of p bits.
