@@ -1,16 +1,15 @@
 -- Eight bytes at a time: a number of big-endian bytes decides as its bytes do.
 use Prim.Native.Nat.{ℕ, zero, suc, _+_, _-_, _*_, _<_, _≤_, min}
-use mathlib.Core.Path.{_≡_, refl, sym, ap, _∙_}
+use mathlib.Core.Path.{_≡_, refl, sym, _∙_}
 use mathlib.Core.List.{List}
 use native.Mathlib.Decide.{decLt}
-use native.Mathlib.Numerals.{add-one}
 use native.Mathlib.Omega.{arith}
 use mir.Syntax.{w8}
 use mir.Val.{Fits}
 use lib.ListN.{length, getD, take, drop, length-take, length-drop, List·getD-eq-default}
 use lib.Seq.{drop-cons, getD-take, getD-drop, take-all}
 use Rattle.order.specs.declared.Ordering.{Ordering}
-use Rattle.order.specs.declared.Ordering.the-variants.{Less, Equal, Greater}
+use Rattle.order.specs.declared.Ordering.the-variants.{Less, Greater}
 use Rattle.order.specs.Comparison.{orElse, number, bytes}
 use Rattle.order.proofs.Comparison.{number-less, number-equal, number-greater}
 use Rattle.field.specs.Number.{twoAt, fourAt, wordAt}

@@ -1,14 +1,14 @@
 -- What the words of an origin's field say.
 use Prim.Native.Nat.{ℕ, _+_, _-_, _*_, _/_, _%_, _^_, _<_, _≤_}
-use mathlib.Core.Path.{_≡_, refl, sym, ap, _∙_}
+use mathlib.Core.Path.{_≡_, refl, sym, _∙_}
 use mathlib.Core.List.{List}
-use mathlib.Core.Bool.{Bool, true, false, not, cond, _&&_, _||_, false≢true}
+use mathlib.Core.Bool.{Bool, true, false, not, cond, _||_, false≢true}
 use native.Mathlib.Nat.{div-lt-iff-lt-mul}
 use native.Mathlib.Omega.{arith}
 use borrow.Author.Tests.{le-leb, lt-leb, eq-eqb, ne-eqb, eqb-true, not-false}
-use mir.Syntax.{w8, w64}
+use mir.Syntax.{w64}
 use mir.Val.{Fits}
-use lib.Dec.{leb, ltb, eqb}
+use lib.Dec.{ltb, eqb}
 use lib.ListN.{length, getD, drop, length-take, length-drop}
 use lib.Seq.{getD-take, getD-drop}
 use Rattle.order.specs.declared.Ordering.{Ordering}
@@ -21,7 +21,7 @@ use Rattle.field.specs.declared.tag.Form.the-variants.{Snapshot, Delta}
 use Rattle.field.specs.declared.words.Words.{Words}
 use Rattle.field.specs.declared.words.Heads.{Heads}
 use Rattle.field.specs.Number.{twoAt, fourAt, wordAt}
-use Rattle.field.specs.Origin.{family, prefixLength, maximumLength, address, clean, goodPrefix, goodOrigin}
+use Rattle.field.specs.Origin.{family, prefixLength, maximumLength, goodPrefix, goodOrigin}
 use Rattle.field.specs.Tag.{tagOf, kindOf}
 use Rattle.field.specs.Places.{part, fieldAt}
 use Rattle.field.specs.Verdict.{isLess}

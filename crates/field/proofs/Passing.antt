@@ -23,7 +23,7 @@ use Rattle.field.specs.Origin.{goodOrigin}
 use Rattle.field.specs.Tag.{tagOf, kindNumber, kindOf, goodTagged, goodBody}
 use Rattle.field.specs.Places.{part, fieldAt, keyIn, keyPlace}
 use Rattle.field.specs.Words.{wordsAt, NextWords}
-use Rattle.field.specs.Progress.{Judged, standBehind, If, GoodField, Reaches, Further}
+use Rattle.field.specs.Progress.{Judged, standBehind, If, Reaches, Further}
 use Rattle.field.proofs.Eights.{Octets, digits, four-digits, part-bytes, part-digits, digits-decide}
 use Rattle.field.proofs.Fields.{whole-at, body-ordered, body-within}
 use Rattle.field.proofs.Fieldwords.{next-head, next-good, words-less}
