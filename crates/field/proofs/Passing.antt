@@ -47,6 +47,7 @@ behind-is kind from to key e = λ i. record { at = to; before = e i }
 
 -- ---- pass_origins
 
+-- where the loop stands: behind an origin, with its words and those of the next field
 pub record Passed (form : Form) (s : List ℕ) (start at : ℕ) (before field : Words) : Type 0 where
   pub origin : 26 ≤ start
   pub on : start ≤ at
