@@ -1,4 +1,4 @@
--- Eight bytes at a time: a word of big-endian bytes decides as its bytes do.
+-- Eight bytes at a time: a number of big-endian bytes decides as its bytes do.
 use Prim.Native.Nat.{ℕ, zero, suc, _+_, _-_, _*_, _<_, _≤_, min}
 use mathlib.Core.Path.{_≡_, refl, sym, _∙_}
 use mathlib.Core.List.{List}
@@ -6,23 +6,33 @@ use native.Mathlib.Decide.{decLt}
 use native.Mathlib.Omega.{arith}
 use mir.Syntax.{w8}
 use mir.Val.{Fits}
-use lib.ListN.{length, getD, drop}
+use lib.ListN.{length, getD, take, drop, length-take, length-drop, List·getD-eq-default}
+use lib.Seq.{drop-cons, getD-take, getD-drop, take-all}
 use Rattle.order.specs.declared.Ordering.{Ordering}
-use Rattle.order.specs.declared.Ordering.the-variants.{Less, Equal, Greater}
-use Rattle.order.specs.Comparison.{bytes}
-use Rattle.order.proofs.Scan.{scan-same, scan-less, scan-greater, scan-both, scan-left, scan-right}
-use Rattle.field.specs.Number.{fourAt, sevenAt, wordAt}
+use Rattle.order.specs.declared.Ordering.the-variants.{Less, Greater}
+use Rattle.order.specs.Comparison.{orElse, number, bytes}
+use Rattle.order.proofs.Comparison.{number-less, number-equal, number-greater}
+use Rattle.field.specs.Number.{twoAt, fourAt, wordAt}
+use Rattle.field.specs.Places.{part}
 
 -- each element is a byte
-abbrev Octets : List ℕ → Type 0
+abbrev pub Octets : List ℕ → Type 0
 Octets s = (i : ℕ) → Fits w8 (getD s i 0)
 
 -- the number of the n bytes at i
-unfoldable digits : ℕ → List ℕ → ℕ → ℕ
+unfoldable pub digits : ℕ → List ℕ → ℕ → ℕ
 digits zero s i = 0
 digits (suc n) s i = digits n s i * 256 + getD s (i + n) 0
 
-word-digits : (s : List ℕ) (i : ℕ) → wordAt s i ≡ digits 8 s i
+pub two-digits : (s : List ℕ) (i : ℕ) → twoAt s i ≡ digits 2 s i
+unfolding digits
+two-digits s i = let a : i + 0 ≡ i = omega arith in rw a (omega arith)
+
+pub four-digits : (s : List ℕ) (i : ℕ) → fourAt s i ≡ digits 4 s i
+unfolding digits
+four-digits s i = let a : i + 0 ≡ i = omega arith in rw a (omega arith)
+
+pub word-digits : (s : List ℕ) (i : ℕ) → wordAt s i ≡ digits 8 s i
 unfolding wordAt digits
 word-digits s i =
     let a : i + 0 ≡ i = omega arith in
@@ -31,84 +41,66 @@ word-digits s i =
     let d : i + 4 + 3 ≡ i + 7 = omega arith in
     rw (a, b, c, d) (omega arith)
 
-seven-digits : (s : List ℕ) (i : ℕ) → sevenAt s i ≡ digits 7 s i
-unfolding sevenAt digits
-seven-digits s i = let a : i + 0 ≡ i = omega arith in rw a (omega arith)
+-- a part of bytes is bytes
+pub part-bytes : (s : List ℕ) → Octets s → (from to : ℕ) → Octets (part s from to)
+part-bytes s o from to i =
+    elim (decLt i (to - from)) [
+      | yes h ↦ rw (getD-take (to - from) (drop from s) i 0 h, getD-drop from s i 0) (o (from + i))
+      | no h ↦ let z : length (part s from to) ≤ i = simp length-take (omega arith) in rw (List·getD-eq-default (part s from to) 0 z) (record { fits = omega arith })
+    ]
 
-byte : (s : List ℕ) → Octets s → (i : ℕ) → getD s i 0 < 256
-byte s o i = o i .fits
+-- the digits of a part are those of the whole
+pub part-digits : (s : List ℕ) (from to i n : ℕ) → i + n ≤ to - from → digits n (part s from to) i ≡ digits n s (from + i)
+unfolding digits
+part-digits s from to i zero h = refl
+part-digits s from to i (suc n) h =
+    let e : from + (i + n) ≡ from + i + n = omega arith in
+    rw (part-digits s from to i n (omega arith), getD-take (to - from) (drop from s) (i + n) 0 (omega arith), getD-drop from s (i + n) 0, e)
 
-module _ (a b : List ℕ) (o : Octets a) (p : Octets b) (i : ℕ) where
-  digits-same : (n : ℕ) → i + n ≤ length a → i + n ≤ length b → digits n a i ≡ digits n b i
-      → bytes (drop i a) (drop i b) ≡ bytes (drop (i + n) a) (drop (i + n) b)
-  unfolding digits
-  digits-same zero h k e = let z : i + 0 ≡ i = omega arith in rw z
-  digits-same (suc n) h k e =
-      let x = byte a o (i + n) in
-      let y = byte b p (i + n) in
-      let m : i + suc n ≡ i + n + 1 = omega arith in
-      digits-same n (omega arith) (omega arith) (omega arith) ∙ rw m (scan-same a b (i + n) (omega arith) (omega arith) (omega arith))
-
-  digits-less : (n : ℕ) → i + n ≤ length a → i + n ≤ length b → digits n a i < digits n b i → bytes (drop i a) (drop i b) ≡ Less
-  unfolding digits
-  digits-less zero h k e = absurd (omega arith)
-  digits-less (suc n) h k e =
-      let x = byte a o (i + n) in
-      let y = byte b p (i + n) in
-      elim (decLt (digits n a i) (digits n b i)) [
-        | yes l ↦ digits-less n (omega arith) (omega arith) l
-        | no l ↦ digits-same n (omega arith) (omega arith) (omega arith) ∙ scan-less a b (i + n) (omega arith) (omega arith) (omega arith)
+-- a digit more
+digit-more : (m n x y : ℕ) → x < 256 → y < 256 → (o : Ordering)
+    → orElse (number m n) (orElse (number x y) o) ≡ orElse (number (m * 256 + x) (n * 256 + y)) o
+digit-more m n x y h k o =
+    elim (decLt m n) [
+      | yes l ↦ rw (number-less m n l, number-less (m * 256 + x) (n * 256 + y) (omega arith))
+      | no l ↦ elim (decLt n m) [
+        | yes g ↦ rw (number-greater m n g, number-greater (m * 256 + x) (n * 256 + y) (omega arith))
+        | no g ↦ rw (number-equal m n (omega arith)) (last (omega arith))
       ]
-
-  digits-greater : (n : ℕ) → i + n ≤ length a → i + n ≤ length b → digits n b i < digits n a i → bytes (drop i a) (drop i b) ≡ Greater
-  unfolding digits
-  digits-greater zero h k e = absurd (omega arith)
-  digits-greater (suc n) h k e =
-      let x = byte a o (i + n) in
-      let y = byte b p (i + n) in
-      elim (decLt (digits n b i) (digits n a i)) [
-        | yes l ↦ digits-greater n (omega arith) (omega arith) l
-        | no l ↦ digits-same n (omega arith) (omega arith) (omega arith) ∙ scan-greater a b (i + n) (omega arith) (omega arith) (omega arith)
-      ]
-
-  pub seven-less : i + 7 ≤ length a → i + 7 ≤ length b → sevenAt a i < sevenAt b i → bytes (drop i a) (drop i b) ≡ Less
-  seven-less h k l = digits-less 7 h k (rw (seven-digits a i, seven-digits b i) at l)
-
-  module _ (h : i + 8 ≤ length a) (k : i + 8 ≤ length b) where
-    pub word-less : wordAt a i < wordAt b i → bytes (drop i a) (drop i b) ≡ Less
-    word-less l = digits-less 8 h k (rw (word-digits a i, word-digits b i) at l)
-
-    pub word-greater : wordAt b i < wordAt a i → bytes (drop i a) (drop i b) ≡ Greater
-    word-greater l = digits-greater 8 h k (rw (word-digits a i, word-digits b i) at l)
-
-    pub word-same : wordAt a i ≡ wordAt b i → bytes (drop i a) (drop i b) ≡ bytes (drop (i + 8) a) (drop (i + 8) b)
-    word-same l = digits-same 8 h k (rw (word-digits a i, word-digits b i) at l)
-
-    -- each part of two words that are equal is
-    upto : (n m : ℕ) → n ≤ 8 → m ≤ n → digits n a i ≡ digits n b i → bytes (drop i a) (drop i b) ≡ bytes (drop (i + m) a) (drop (i + m) b)
-    unfolding digits
-    upto zero m g f e = let z : m ≡ 0 = omega arith in rw z (digits-same 0 (omega arith) (omega arith) refl)
-    upto (suc n) m g f e =
-        let x = byte a o (i + n) in
-        let y = byte b p (i + n) in
-        elim (decLt m (suc n)) [
-          | yes l ↦ upto n m (omega arith) (omega arith) (omega arith)
-          | no l ↦ let z : m ≡ suc n = omega arith in rw z (digits-same (suc n) (omega arith) (omega arith) e)
+    ]
+  where
+    last : m ≡ n → orElse (number x y) o ≡ orElse (number (m * 256 + x) (n * 256 + y)) o
+    last e =
+        elim (decLt x y) [
+          | yes l ↦ rw (number-less x y l, number-less (m * 256 + x) (n * 256 + y) (omega arith))
+          | no l ↦ elim (decLt y x) [
+            | yes g ↦ rw (number-greater x y g, number-greater (m * 256 + x) (n * 256 + y) (omega arith))
+            | no g ↦ rw (number-equal x y (omega arith), number-equal (m * 256 + x) (n * 256 + y) (omega arith))
+          ]
         ]
 
-    pub word-upto : wordAt a i ≡ wordAt b i → (m : ℕ) → m ≤ 8 → bytes (drop i a) (drop i b) ≡ bytes (drop (i + m) a) (drop (i + m) b)
-    word-upto l m f = upto 8 m (omega arith) f (rw (word-digits a i, word-digits b i) at l)
+-- n bytes decide as their number does, or else the bytes behind them
+module _ (a b : List ℕ) (o : Octets a) (p : Octets b) (i : ℕ) where
+  pub digits-decide : (n : ℕ) → i + n ≤ length a → i + n ≤ length b
+      → bytes (drop i a) (drop i b) ≡ orElse (number (digits n a i) (digits n b i)) (bytes (drop (i + n) a) (drop (i + n) b))
+  unfolding digits
+  digits-decide zero h k = let z : i + 0 ≡ i = omega arith in rw z
+  digits-decide (suc n) h k =
+      let m : i + suc n ≡ suc (i + n) = omega arith in
+      let u : i + n < length a = omega arith in
+      let v : i + n < length b = omega arith in
+      digits-decide n (omega arith) (omega arith)
+      ∙ rw (m, drop-cons a (i + n) 0 u, drop-cons b (i + n) 0 v)
+      (digit-more (digits n a i) (digits n b i) (getD a (i + n) 0) (getD b (i + n) 0) (o (i + n) .fits) (p (i + n) .fits) (bytes (drop (suc (i + n)) a) (drop (suc (i + n)) b)))
 
--- ---- compare: n bytes stand in both, of which the first i are equal, so that the rest from each place up to i on decides
+-- ---- compare: the first i bytes are equal, so that the rest decides
 pub record Worded (a b : List ℕ) (n i : ℕ) : Type 0 where
   pub both : n ≡ min (length a) (length b)
-  pub long : 8 ≤ n
   pub within : i ≤ n
-  pub rest : (j : ℕ) → j ≤ i → bytes (drop j a) (drop j b) ≡ bytes a b
+  pub rest : bytes (drop i a) (drop i b) ≡ bytes a b
 
-pub worded-start : (a b : List ℕ) (n : ℕ) → n ≡ min (length a) (length b) → 8 ≤ n → Worded a b n 0
-worded-start a b n e h =
-    record { both = e; long = h; within = omega arith; rest = λ j l. let z : j ≡ 0 = omega arith in rw z }
+pub worded-start : (a b : List ℕ) (n : ℕ) → n ≡ min (length a) (length b) → Worded a b n 0
+worded-start a b n e = record { both = e; within = omega arith; rest = refl }
 
 module _ (a b : List ℕ) (n i : ℕ) (l : Worded a b n i) where
   pub worded-left : 8 ≤ n - i → i + 8 ≤ length a
@@ -117,69 +109,32 @@ module _ (a b : List ℕ) (n i : ℕ) (l : Worded a b n i) where
   pub worded-right : 8 ≤ n - i → i + 8 ≤ length b
   worded-right h = omega (arith, l .both)
 
-  pub last-left : n - 8 + 8 ≤ length a
-  last-left = omega (arith, l .both)
+  pub worded-end : (r : Ordering) → r ≡ bytes (part a i (length a)) (part b i (length b)) → r ≡ bytes a b
+  worded-end r e = e ∙ rw (to-end a, to-end b) (l .rest)
+    where
+      to-end : (s : List ℕ) → take (length s - i) (drop i s) ≡ drop i s
+      to-end s = take-all (length s - i) (drop i s) (simp length-drop (omega arith))
 
-  pub last-right : n - 8 + 8 ≤ length b
-  last-right = omega (arith, l .both)
+  module _ (o : Octets a) (p : Octets b) (h : 8 ≤ n - i) (x y : ℕ) (d : x ≡ wordAt a i) (e : y ≡ wordAt b i) where
+    step : bytes a b ≡ orElse (number x y) (bytes (drop (i + 8) a) (drop (i + 8) b))
+    step =
+        sym (l .rest)
+        ∙ rw (d, e, word-digits a i, word-digits b i) (digits-decide a b o p i 8 (worded-left h) (worded-right h))
 
-  module _ (o : Octets a) (p : Octets b) where
-    module _ (h : 8 ≤ n - i) (x y : ℕ) (d : x ≡ wordAt a i) (e : y ≡ wordAt b i) where
-      pub worded-less : x < y → Less ≡ bytes a b
-      worded-less g = sym (word-less a b o p i (worded-left h) (worded-right h) (rw (d, e) at g)) ∙ l .rest i (omega arith)
+    pub worded-less : x < y → Less ≡ bytes a b
+    worded-less g = sym (step ∙ rw (number-less x y g))
 
-      pub worded-greater : y < x → Greater ≡ bytes a b
-      worded-greater g = sym (word-greater a b o p i (worded-left h) (worded-right h) (rw (d, e) at g)) ∙ l .rest i (omega arith)
+    pub worded-greater : y < x → Greater ≡ bytes a b
+    worded-greater g = sym (step ∙ rw (number-greater x y g))
 
-      pub worded-more : y ≤ x → x ≤ y → Worded a b n (i + 8)
-      worded-more g f =
-          let same : wordAt a i ≡ wordAt b i = omega arith in
-          record {
-            both = l .both;
-            long = l .long;
-            within = omega arith;
-            rest = λ j k. elim (decLt j i) [
-              | yes u ↦ l .rest j (omega arith)
-              | no u ↦ let z : i + (j - i) ≡ j = omega arith in
-                  rw z at (sym (word-upto a b o p i (worded-left h) (worded-right h) same (j - i) (omega arith))) ∙ l .rest i (omega arith)
-            ];
-          }
+    pub worded-more : y ≤ x → x ≤ y → Worded a b n (i + 8)
+    worded-more g f =
+        record { both = l .both; within = omega arith; rest = sym (step ∙ rw (number-equal x y (omega arith))) }
 
-    -- the last eight bytes, some of them again
-    module _ (h : n - i < 8) (x y : ℕ) (d : x ≡ wordAt a (n - 8)) (e : y ≡ wordAt b (n - 8)) where
-      pub last-less : x < y → Less ≡ bytes a b
-      last-less g = sym (word-less a b o p (n - 8) last-left last-right (rw (d, e) at g)) ∙ l .rest (n - 8) (omega arith)
+pub ruleset words = (worded-start, worded-left, worded-right, worded-end, worded-less, worded-greater, worded-more)
 
-      pub last-greater : y < x → Greater ≡ bytes a b
-      last-greater g = sym (word-greater a b o p (n - 8) last-left last-right (rw (d, e) at g)) ∙ l .rest (n - 8) (omega arith)
-
-      module _ (g : y ≤ x) (f : x ≤ y) where
-        end : bytes (drop n a) (drop n b) ≡ bytes a b
-        end =
-            let same : wordAt a (n - 8) ≡ wordAt b (n - 8) = omega arith in
-            let z : n - 8 + 8 ≡ n = omega (arith, l .long) in
-            rw z at (sym (word-same a b o p (n - 8) last-left last-right same)) ∙ l .rest (n - 8) (omega arith)
-
-        pub end-less : length a < length b → Less ≡ bytes a b
-        end-less k = sym (scan-left a b n (omega (arith, l .both)) (omega (arith, l .both))) ∙ end
-
-        pub end-greater : length b < length a → Greater ≡ bytes a b
-        end-greater k = sym (scan-right a b n (omega (arith, l .both)) (omega (arith, l .both))) ∙ end
-
-        pub end-equal : length b ≤ length a → length a ≤ length b → Equal ≡ bytes a b
-        end-equal k m = sym (scan-both a b n (omega (arith, l .both)) (omega (arith, l .both))) ∙ end
-
-pub four-read : (s : List ℕ) (i a b c d : ℕ) → a ≡ getD s i 0 → b ≡ getD s (i + 1) 0 → c ≡ getD s (i + 2) 0 → d ≡ getD s (i + 3) 0
-    → a * 16_777_216 + b * 65_536 + c * 256 + d ≡ fourAt s i
-four-read s i a b c d p q r t = omega arith
+-- ---- a word as the code reads it
 
 pub word-read : (s : List ℕ) (i x y : ℕ) → x ≡ fourAt s i → y ≡ fourAt s (i + 4) → x * 4_294_967_296 + y ≡ wordAt s i
 unfolding wordAt
 word-read s i x y p q = cc
-
-pub seven-read : (s : List ℕ) (i x a b c : ℕ) → x ≡ fourAt s i → a ≡ getD s (i + 4) 0 → b ≡ getD s (i + 5) 0 → c ≡ getD s (i + 6) 0
-    → x * 16_777_216 + (a * 65_536 + b * 256 + c) ≡ sevenAt s i
-unfolding sevenAt
-seven-read s i x a b c p q r t = cc
-
-pub ruleset words = (worded-start, worded-left, worded-right, last-left, last-right, worded-less, worded-greater, worded-more, last-less, last-greater, end-less, end-greater, end-equal)

@@ -11,7 +11,7 @@ pub mod Fronts
 pub mod Fields
 pub mod Keys
 pub mod Judging
-pub mod Bodywords
+pub mod Fieldwords
 pub mod Passing
 pub mod Run
 pub mod Encode

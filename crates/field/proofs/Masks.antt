@@ -4,17 +4,17 @@ use mathlib.Core.Path.{_≡_, refl, sym, ap, _∙_}
 use mathlib.Core.List.{List, [], _∷_, _++_}
 use mathlib.Core.Bool.{Bool, true, false, _&&_}
 use native.Mathlib.Decide.{decLt}
-use native.Mathlib.Nat.{zero-mod, mod-one, mod-eq-of-lt, mul-add-mod-self-right, mul-assoc, mul-suc, mul-div-cancel, mul-mod-left}
+use native.Mathlib.Nat.{zero-mod, mod-one, mod-eq-of-lt, mul-add-mod-self-right, mul-assoc, mul-div-cancel, mul-mod-left}
 use native.Mathlib.Omega.{arith}
-use borrow.Author.Tests.{eq-eqb, ne-eqb}
+use borrow.Author.Tests.{ne-eqb}
 use mir.Syntax.{w8, w64}
 use mir.Val.{Fits}
 use lib.Dec.{eqb}
 use lib.Pow.{pow-pos, pow-add}
 use lib.Arith.{digits-lt, digits-div, digits-mod, mod-mul}
-use lib.ListN.{length, getD, take, drop, length-take, length-drop}
+use lib.ListN.{length, getD, take, drop, length-drop}
 use lib.Seq.{drop-cons, drop-drop, take-add, length-take-le}
-use Rattle.field.specs.Number.{fourAt, wordAt}
+use Rattle.field.specs.Number.{wordAt}
 use Rattle.field.specs.Origin.{address, cleanByte, clean}
 use Rattle.field.specs.Words.{cleanHalves}
 
@@ -115,9 +115,6 @@ module _ (s : List ℕ) (o : (i : ℕ) → Fits w8 (getD s i 0)) (i : ℕ) (h : 
 
   clean-word : (p : ℕ) → clean p (take 8 (drop i s)) ≡ eqb (wordAt s i % 2 ^ (64 - p)) 0
   clean-word p = rw (eight-is, word-value) (clean-value eight below p)
-
-  word-lt : wordAt s i < 2 ^ 64
-  word-lt = rw word-value (value-lt eight below)
 
 -- equal values of equally many bytes are equal bytes
 value-same : (a b : List ℕ) → AllBelow a → AllBelow b → length a ≡ length b → value a ≡ value b → a ≡ b

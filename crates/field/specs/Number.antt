@@ -34,10 +34,6 @@ fourBytes n = twoBytes (n / 65_536) ++ twoBytes (n % 65_536)
 unfoldable pub wordBytes : ℕ → List ℕ
 wordBytes w = fourBytes (w / 4_294_967_296) ++ fourBytes (w % 4_294_967_296)
 
--- the number of the seven bytes at i
-unfoldable pub sevenAt : List ℕ → ℕ → ℕ
-sevenAt s i = fourAt s i * 16_777_216 + (getD s (i + 4) 0 * 65_536 + getD s (i + 5) 0 * 256 + getD s (i + 6) 0)
-
 -- the AS number at i
 abbrev pub asnAt : List ℕ → ℕ → Asn
 asnAt s i = record { 0 = fourAt s i }

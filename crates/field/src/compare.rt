@@ -30,14 +30,11 @@ fn compare_bytes(a: &[u8], b: &[u8]) -> Ordering
     Ordering::Equal
 }
 
-// How `a` stands to `b`: byte by byte, a proper prefix first. Eight bytes at a time; of the rest the last eight.
+// How `a` stands to `b`: byte by byte, a proper prefix first. Eight bytes at a time, and the rest singly.
 pub fn compare(a: &[u8], b: &[u8]) -> Ordering
     ensures { λ r. ⌜ r ≡ bytes (now (a .entry)) (now (b .entry)) ⌝ }
 {
     let n = lower(a.len(), b.len());
-    if n < 8 {
-        return compare_bytes(a, b);
-    }
     let mut i = 0;
     while 8 <= n - i {
         let x = word_at(a, i);
@@ -50,19 +47,5 @@ pub fn compare(a: &[u8], b: &[u8]) -> Ordering
         }
         i += 8;
     }
-    let x = word_at(a, n - 8);
-    let y = word_at(b, n - 8);
-    if x < y {
-        return Ordering::Less;
-    }
-    if y < x {
-        return Ordering::Greater;
-    }
-    if a.len() < b.len() {
-        return Ordering::Less;
-    }
-    if b.len() < a.len() {
-        return Ordering::Greater;
-    }
-    Ordering::Equal
+    compare_bytes(&a[i..], &b[i..])
 }

@@ -5,13 +5,23 @@ ghost use mathlib.Core.Path.{_≡_};
 ghost use Prim.Native.Nat.{_+_, _≤_, _<_, min};
 ghost use lib.ListN.{length};
 ghost use Rattle.order.specs.Comparison.{number};
-ghost use Rattle.field.specs.Number.{twoAt, fourAt, sevenAt, wordAt, asnAt};
+ghost use Rattle.field.specs.Number.{twoAt, fourAt, wordAt, asnAt};
 
 // A byte as a wider number.
 pub fn wide(x: u8) -> usize
     ensures { λ r. ⌜ (r ≡ x) × (r < 256) ⌝ }
 {
     x as usize
+}
+
+// The two bytes at i as a number.
+pub(crate) fn pair_at(s: &[u8], i: usize) -> usize
+    requires { ⌜ i + 2 ≤ length (now s) ⌝ }
+    ensures { λ r. ⌜ (r ≡ twoAt (now (s .entry)) i) × (r < 65536) ⌝ }
+{
+    let high = wide(s[i]);
+    let low = wide(s[i + 1]);
+    high * 256 + low
 }
 
 // The two bytes at i as a number. A byte past the end counts as 0.
@@ -21,12 +31,10 @@ pub fn two_at(s: &[u8], i: usize) -> usize
     if s.len() <= i {
         return 0;
     }
-    let high = wide(s[i]);
     if s.len() - i < 2 {
-        return high * 256;
+        return wide(s[i]) * 256;
     }
-    let low = wide(s[i + 1]);
-    high * 256 + low
+    pair_at(s, i)
 }
 
 // The lower of two numbers.
@@ -40,7 +48,7 @@ pub fn lower(x: usize, y: usize) -> usize
 }
 
 // The four bytes at i as a number.
-fn four_at(s: &[u8], i: usize) -> usize
+pub(crate) fn four_at(s: &[u8], i: usize) -> usize
     requires { ⌜ i + 4 ≤ length (now s) ⌝ }
     ensures { λ r. ⌜ (r ≡ fourAt (now (s .entry)) i) × (r < 4294967296) ⌝ }
 {
@@ -53,18 +61,6 @@ pub fn word_at(s: &[u8], i: usize) -> usize
     ensures { λ r. ⌜ r ≡ wordAt (now (s .entry)) i ⌝ }
 {
     four_at(s, i) * 4294967296 + four_at(s, i + 4)
-}
-
-// The seven bytes at i as a number.
-pub(crate) fn seven_at(s: &[u8], i: usize) -> usize
-    requires { ⌜ i + 7 ≤ length (now s) ⌝ }
-    ensures { λ r. ⌜ r ≡ sevenAt (now (s .entry)) i ⌝ }
-{
-    let high = four_at(s, i);
-    let a = wide(s[i + 4]);
-    let b = wide(s[i + 5]);
-    let c = wide(s[i + 6]);
-    high * 16777216 + (a * 65536 + b * 256 + c)
 }
 
 // The four bytes at i as an AS number.

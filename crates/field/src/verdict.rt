@@ -4,21 +4,18 @@ use crate::head::field_at;
 use crate::key::Key;
 use crate::key::key_at;
 use crate::key::key_compare;
-use crate::number::two_at;
+use crate::number::four_at;
 use crate::tag::Form;
 use crate::tag::body_ok;
 use crate::tag::kind_of;
-use crate::words::Words;
-use crate::words::words_below;
-use crate::words::words_of;
-use crate::words::words_ok;
+use crate::words::next_words;
+use crate::words::words_at;
 use order::Ordering;
 ghost use mathlib.Core.Path.{_≡_};
-ghost use Prim.Native.Nat.{_+_, _≤_};
-ghost use lib.ListN.{length};
+ghost use Prim.Native.Nat.{_+_, _-_, _≤_};
+ghost use Rattle.field.specs.Places.{keyPlace};
 ghost use Rattle.field.specs.Verdict.{verdict};
-ghost use Rattle.field.specs.Words.{nextWords};
-ghost use Rattle.field.specs.Progress.{Judged, originKey, If, OriginHead, Passes, Further};
+ghost use Rattle.field.specs.Progress.{Judged, standBehind, Reaches, Further};
 
 // What the check finds: nothing, or the first bad field, by its offset.
 pub enum Verdict {
@@ -35,81 +32,105 @@ pub struct Stand {
     pub before: Key,
 }
 
-// Whether at `at` stands the head of an origin. A no decides nothing.
-fn origin_head(form: Form, s: &[u8], at: usize) -> bool
-    requires { ⌜ at + 26 ≤ length (now s) ⌝ }
-    ensures { λ r. ⌜ If r (OriginHead form (now (s .entry)) at) ⌝ }
+// Behind a field of this kind, with the body from `from` up to `to`.
+fn behind(kind: u8, from: usize, to: usize) -> Stand
+    ensures { λ r. ⌜ r ≡ standBehind kind from to ⌝ }
 {
-    if kind_of(form, s[at]) != 1 {
-        return false;
-    }
-    if two_at(s, at + 1) != 23 {
-        return false;
-    }
-    true
+    let before = key_at(kind, from, to);
+    Stand { at: to, before }
 }
 
-// Whether a body is an origin's, and above another.
-fn next_words(before: Words, body: Words) -> bool
-    ensures { λ r. ⌜ r ≡ nextWords before body ⌝ }
+// Behind an origin that ends at `start`, past the good ascending origins but the last. The words of a field are read one
+// turn before they are judged: judged in the same turn they would be read byte by byte.
+fn pass_origins(form: Form, s: &[u8], start: usize) -> Stand
+    requires { ⌜ (26 ≤ start) × Judged form (now s) start (keyPlace 1 (start - 23) start) ⌝ }
+    ensures { λ r. ⌜ Further form (now (s .entry)) start r ⌝ }
 {
-    if !words_ok(body) {
-        return false;
+    if s.len() - start < 26 {
+        return behind(1, start - 23, start);
     }
-    words_below(before, body)
-}
-
-// Behind an origin that ends at `start`, past the good ascending origins.
-fn pass_origins(form: Form, s: &[u8], start: usize) -> usize
-    requires { ⌜ (23 ≤ start) × Judged form (now s) start (originKey start) ⌝ }
-    ensures { λ r. ⌜ Passes form (now (s .entry)) start r ⌝ }
-{
-    let begin = start - 23;
-    let mut before = words_of(&s[begin..start]);
+    let mut before = words_at(s, start - 26);
+    let mut field = words_at(s, start);
     let mut at = start;
-    while 26 <= s.len() - at {
-        if !origin_head(form, s, at) {
-            return at;
+    while 52 <= s.len() - at {
+        if !next_words(form, before, field) {
+            return behind(1, at - 23, at);
         }
-        let from = at + 3;
-        let to = at + 26;
-        let body = words_of(&s[from..to]);
-        if !next_words(before, body) {
-            return at;
-        }
-        before = body;
+        before = field;
         at += 26;
+        field = words_at(s, at);
     }
-    at
+    behind(1, at - 23, at)
 }
 
-// Behind an origin past the good ascending origins; else nothing is passed.
+// Where the field at `at` ends, if it is a good one of this kind; else `at`.
+fn good_end(form: Form, kind: u8, s: &[u8], at: usize) -> usize
+    ensures { λ r. ⌜ Reaches form kind (now (s .entry)) at r ⌝ }
+{
+    match field_at(s, at) {
+        Field::End => at,
+        Field::Cut => at,
+        Field::Whole { tag, from, to } => {
+            if kind_of(form, tag) != kind {
+                return at;
+            }
+            if !body_ok(form, tag, &s[from..to]) {
+                return at;
+            }
+            to
+        }
+    }
+}
+
+// Behind a field of this kind, past the good ones of its kind, as long as the first four bytes of each key are above
+// those of the one before.
+fn pass_kind(form: Form, s: &[u8], kind: u8, first: usize, start: usize) -> Stand
+    requires { ⌜ (first + 4 ≤ start) × Judged form (now s) start (keyPlace kind first start) ⌝ }
+    ensures { λ r. ⌜ Further form (now (s .entry)) start r ⌝ }
+{
+    let mut from = first;
+    let mut at = start;
+    let mut front = four_at(s, first);
+    while 7 <= s.len() - at {
+        let next = four_at(s, at + 3);
+        if next <= front {
+            return behind(kind, from, at);
+        }
+        let to = good_end(form, kind, s, at);
+        if to < at + 7 {
+            return behind(kind, from, at);
+        }
+        from = at + 3;
+        at = to;
+        front = next;
+    }
+    behind(kind, from, at)
+}
+
+// Behind a field that ends at `at`, past good fields that surely ascend. What it does not approve of it leaves.
 fn pass(form: Form, s: &[u8], at: usize, before: Key) -> Stand
     requires { ⌜ Judged form (now s) at before ⌝ }
     ensures { λ r. ⌜ Further form (now (s .entry)) at r ⌝ }
 {
-    if before.kind != 1 {
+    let kind = before.kind;
+    let from = before.from;
+    let key = key_at(kind, from, at);
+    if before.to != key.to {
         return Stand { at, before };
     }
-    if before.to != at {
+    if at < 26 {
         return Stand { at, before };
     }
-    if at < 23 {
+    if at - 4 < from {
         return Stand { at, before };
     }
-    if before.from != at - 23 {
+    if kind != 1 {
+        return pass_kind(form, s, kind, from, at);
+    }
+    if from != at - 23 {
         return Stand { at, before };
     }
-    let to = pass_origins(form, s, at);
-    let last = Key {
-        kind: 1,
-        from: to - 23,
-        to,
-    };
-    Stand {
-        at: to,
-        before: last,
-    }
+    pass_origins(form, s, at)
 }
 
 // The check of a snapshot or a delta.

@@ -14,12 +14,6 @@ abbrev μ-loop : tie.MeasureT-loop
 lower-requires : tie.Need-lower-requires Inv-loop μ-loop
 lower-requires c κs = search (words, needs)
 
-compare-bytes-requires : tie.Need-compare-bytes-requires Inv-loop μ-loop
-compare-bytes-requires c κs = search (words, needs)
-
-returns : tie.Need-returns Inv-loop μ-loop
-returns c = search (words, needs)
-
 loop-holds : tie.Need-loop-holds Inv-loop μ-loop
 loop-holds c = search (words, needs)
 
@@ -32,11 +26,11 @@ word-at-requires c κs = search (words, needs)
 word-at-requires-2 : tie.Need-word-at-requires-2 Inv-loop μ-loop
 word-at-requires-2 c κs = search (words, needs)
 
+returns : tie.Need-returns Inv-loop μ-loop
+returns c = search (words, needs)
+
 returns-2 : tie.Need-returns-2 Inv-loop μ-loop
 returns-2 c = search (words, needs)
-
-returns-3 : tie.Need-returns-3 Inv-loop μ-loop
-returns-3 c = search (words, needs)
 
 add-i : tie.Need-add-i Inv-loop μ-loop
 add-i c = search (words, needs)
@@ -47,26 +41,29 @@ loop-less c = search (words, needs)
 loop-again : tie.Need-loop-again Inv-loop μ-loop
 loop-again c = search (words, needs)
 
-word-at-requires-3 : tie.Need-word-at-requires-3 Inv-loop μ-loop
-word-at-requires-3 c κs = search (words, needs)
+sub-compare-bytes : tie.Need-sub-compare-bytes Inv-loop μ-loop
+sub-compare-bytes c = search (words, needs)
 
-word-at-requires-4 : tie.Need-word-at-requires-4 Inv-loop μ-loop
-word-at-requires-4 c κs = search (words, needs)
+part-compare-bytes-start : tie.Need-part-compare-bytes-start Inv-loop μ-loop
+part-compare-bytes-start c = search (words, needs)
 
-returns-4 : tie.Need-returns-4 Inv-loop μ-loop
-returns-4 c = search (words, needs)
+part-compare-bytes-end : tie.Need-part-compare-bytes-end Inv-loop μ-loop
+part-compare-bytes-end c = search (words, needs)
 
-returns-5 : tie.Need-returns-5 Inv-loop μ-loop
-returns-5 c = search (words, needs)
+sub-compare-bytes-2 : tie.Need-sub-compare-bytes-2 Inv-loop μ-loop
+sub-compare-bytes-2 c = search (words, needs)
 
-returns-6 : tie.Need-returns-6 Inv-loop μ-loop
-returns-6 c = search (words, needs)
+part-compare-bytes-start-2 : tie.Need-part-compare-bytes-start-2 Inv-loop μ-loop
+part-compare-bytes-start-2 c = search (words, needs)
 
-returns-7 : tie.Need-returns-7 Inv-loop μ-loop
-returns-7 c = search (words, needs)
+part-compare-bytes-end-2 : tie.Need-part-compare-bytes-end-2 Inv-loop μ-loop
+part-compare-bytes-end-2 c = search (words, needs)
 
-returns-8 : tie.Need-returns-8 Inv-loop μ-loop
-returns-8 c = search (words, needs)
+compare-bytes-requires : tie.Need-compare-bytes-requires Inv-loop μ-loop
+compare-bytes-requires c κs = search (words, needs)
+
+returns-3 : tie.Need-returns-3 Inv-loop μ-loop
+returns-3 c = search (words, needs)
 
 pub compare-spec : {M : Type 1} → statement M
 compare-spec =
@@ -75,21 +72,20 @@ compare-spec =
     Inv-loop
     μ-loop
     lower-requires
-    compare-bytes-requires
-    returns
     loop-holds
     sub-loop
     word-at-requires
     word-at-requires-2
+    returns
     returns-2
-    returns-3
     add-i
     loop-less
     loop-again
-    word-at-requires-3
-    word-at-requires-4
-    returns-4
-    returns-5
-    returns-6
-    returns-7
-    returns-8)
+    sub-compare-bytes
+    part-compare-bytes-start
+    part-compare-bytes-end
+    sub-compare-bytes-2
+    part-compare-bytes-start-2
+    part-compare-bytes-end-2
+    compare-bytes-requires
+    returns-3)

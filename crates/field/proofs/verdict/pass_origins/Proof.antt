@@ -6,25 +6,31 @@ use Rattle.field.proofs.verdict.pass_origins.Statement.{statement}
 use Rattle.field.proofs.verdict.pass_origins.Tie as tie
 
 abbrev Inv-loop : tie.InvT-loop
-Inv-loop form s start begin before₀ at₀ before at = Passed form s start at before
+Inv-loop form s start before₀ field₀ at₀ before field at = Passed form s start at before field
 
 abbrev μ-loop : tie.MeasureT-loop
-μ-loop form s start begin before₀ at₀ before at = length s - at
+μ-loop form s start before₀ field₀ at₀ before field at = length s - at
 
-sub-begin : tie.Need-sub-begin Inv-loop μ-loop
-sub-begin c = search (passing, needs)
+sub-if1 : tie.Need-sub-if1 Inv-loop μ-loop
+sub-if1 c = search (passing, needs)
 
-sub-words-of : tie.Need-sub-words-of Inv-loop μ-loop
-sub-words-of c = search (passing, needs)
+sub-behind : tie.Need-sub-behind Inv-loop μ-loop
+sub-behind c = search (passing, needs)
 
-part-words-of-start : tie.Need-part-words-of-start Inv-loop μ-loop
-part-words-of-start c = search (passing, needs)
+behind-requires : tie.Need-behind-requires Inv-loop μ-loop
+behind-requires c κs = search (passing, needs)
 
-part-words-of-end : tie.Need-part-words-of-end Inv-loop μ-loop
-part-words-of-end c = search (passing, needs)
+returns : tie.Need-returns Inv-loop μ-loop
+returns c = search (passing, needs)
 
-words-of-requires : tie.Need-words-of-requires Inv-loop μ-loop
-words-of-requires c κs = search (passing, needs)
+sub-words-at : tie.Need-sub-words-at Inv-loop μ-loop
+sub-words-at c = search (passing, needs)
+
+words-at-requires : tie.Need-words-at-requires Inv-loop μ-loop
+words-at-requires c κs = search (passing, needs)
+
+words-at-requires-2 : tie.Need-words-at-requires-2 Inv-loop μ-loop
+words-at-requires-2 c κs = search (passing, needs)
 
 loop-holds : tie.Need-loop-holds Inv-loop μ-loop
 loop-holds c = search (passing, needs)
@@ -32,32 +38,14 @@ loop-holds c = search (passing, needs)
 sub-loop : tie.Need-sub-loop Inv-loop μ-loop
 sub-loop c = search (passing, needs)
 
-origin-head-requires : tie.Need-origin-head-requires Inv-loop μ-loop
-origin-head-requires c κs = search (passing, needs)
-
-returns : tie.Need-returns Inv-loop μ-loop
-returns c = search (passing, needs)
-
-add-from : tie.Need-add-from Inv-loop μ-loop
-add-from c = search (passing, needs)
-
-add-to : tie.Need-add-to Inv-loop μ-loop
-add-to c = search (passing, needs)
-
-sub-words-of-2 : tie.Need-sub-words-of-2 Inv-loop μ-loop
-sub-words-of-2 c = search (passing, needs)
-
-part-words-of-start-2 : tie.Need-part-words-of-start-2 Inv-loop μ-loop
-part-words-of-start-2 c = search (passing, needs)
-
-part-words-of-end-2 : tie.Need-part-words-of-end-2 Inv-loop μ-loop
-part-words-of-end-2 c = search (passing, needs)
-
-words-of-requires-2 : tie.Need-words-of-requires-2 Inv-loop μ-loop
-words-of-requires-2 c κs = search (passing, needs)
-
 next-words-requires : tie.Need-next-words-requires Inv-loop μ-loop
 next-words-requires c κs = search (passing, needs)
+
+sub-behind-2 : tie.Need-sub-behind-2 Inv-loop μ-loop
+sub-behind-2 c = search (passing, needs)
+
+behind-requires-2 : tie.Need-behind-requires-2 Inv-loop μ-loop
+behind-requires-2 c κs = search (passing, needs)
 
 returns-2 : tie.Need-returns-2 Inv-loop μ-loop
 returns-2 c = search (passing, needs)
@@ -65,11 +53,20 @@ returns-2 c = search (passing, needs)
 add-at : tie.Need-add-at Inv-loop μ-loop
 add-at c = search (passing, needs)
 
+words-at-requires-3 : tie.Need-words-at-requires-3 Inv-loop μ-loop
+words-at-requires-3 c κs = search (passing, needs)
+
 loop-less : tie.Need-loop-less Inv-loop μ-loop
 loop-less c = search (passing, needs)
 
 loop-again : tie.Need-loop-again Inv-loop μ-loop
 loop-again c = search (passing, needs)
+
+sub-behind-3 : tie.Need-sub-behind-3 Inv-loop μ-loop
+sub-behind-3 c = search (passing, needs)
+
+behind-requires-3 : tie.Need-behind-requires-3 Inv-loop μ-loop
+behind-requires-3 c κs = search (passing, needs)
 
 returns-3 : tie.Need-returns-3 Inv-loop μ-loop
 returns-3 c = search (passing, needs)
@@ -80,24 +77,23 @@ pass-origins-spec =
     (tie.spec
     Inv-loop
     μ-loop
-    sub-begin
-    sub-words-of
-    part-words-of-start
-    part-words-of-end
-    words-of-requires
+    sub-if1
+    sub-behind
+    behind-requires
+    returns
+    sub-words-at
+    words-at-requires
+    words-at-requires-2
     loop-holds
     sub-loop
-    origin-head-requires
-    returns
-    add-from
-    add-to
-    sub-words-of-2
-    part-words-of-start-2
-    part-words-of-end-2
-    words-of-requires-2
     next-words-requires
+    sub-behind-2
+    behind-requires-2
     returns-2
     add-at
+    words-at-requires-3
     loop-less
     loop-again
+    sub-behind-3
+    behind-requires-3
     returns-3)

@@ -1,45 +1,22 @@
 use borrow.Author.Needs.{needs}
-use Rattle.field.proofs.Bodywords.{judging-words}
+use Rattle.field.proofs.Fieldwords.{judging-words}
 use Rattle.field.proofs.words.words_ok.Statement.{statement}
 use Rattle.field.proofs.words.words_ok.Tie as tie
+
+four-ok-requires : tie.Need-four-ok-requires
+four-ok-requires c κs = search (judging-words, needs)
 
 returns : tie.Need-returns
 returns c = search (judging-words, needs)
 
-bound-past-requires : tie.Need-bound-past-requires
-bound-past-requires c κs = search (judging-words, needs)
-
 returns-2 : tie.Need-returns-2
 returns-2 c = search (judging-words, needs)
 
-mul-high : tie.Need-mul-high
-mul-high c = search (judging-words, needs)
-
-add-high : tie.Need-add-high
-add-high c = search (judging-words, needs)
-
-mul-low : tie.Need-mul-low
-mul-low c = search (judging-words, needs)
-
-add-low : tie.Need-add-low
-add-low c = search (judging-words, needs)
-
-clean-halves-requires : tie.Need-clean-halves-requires
-clean-halves-requires c κs = search (judging-words, needs)
+six-ok-requires : tie.Need-six-ok-requires
+six-ok-requires c κs = search (judging-words, needs)
 
 returns-3 : tie.Need-returns-3
 returns-3 c = search (judging-words, needs)
 
 pub words-ok-spec : {M : Type 1} → statement M
-words-ok-spec =
-    tie.close
-    (tie.spec
-    returns
-    bound-past-requires
-    returns-2
-    mul-high
-    add-high
-    mul-low
-    add-low
-    clean-halves-requires
-    returns-3)
+words-ok-spec = tie.close (tie.spec four-ok-requires returns returns-2 six-ok-requires returns-3)
