@@ -31,7 +31,7 @@ use Rattle.history.specs.Place.{Summed, Placed, IsFine, Stored, lastMerg
 use Rattle.past.proofs.Lists.{all-map}
 use Rattle.past.proofs.Store.{cuts-length}
 use Rattle.history.specs.Push.{between}
-use Rattle.cursors.proofs.Fronting.{drop-bytes}
+use Rattle.item.proofs.Fronts.{drop-bytes}
 use Rattle.history.proofs.Sizing.{merged-size}
 
 -- ---- sums

@@ -29,7 +29,7 @@ use Rattle.walk.proofs.Walking.{whole-fits, whole-bytes}
 use Rattle.past.specs.Store.{total, cuts}
 use Rattle.cursors.specs.Cursor.{D}
 use Rattle.history.specs.Place.{IsFine}
-use Rattle.cursors.proofs.Fronting.{drop-bytes, take-bytes}
+use Rattle.item.proofs.Fronts.{drop-bytes, take-bytes}
 
 -- ---- one key
 
