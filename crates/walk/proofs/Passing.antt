@@ -148,10 +148,10 @@ module _ (a : Bytes) (i : ℕ) (b : Bytes) (j : ℕ) (c : Counts) (q : Stands An
         }
 
   pub below-len : c .len + (p - i) < 2 ^ 64
-  below-len = omega (arith, q .len, q .short, s .ready .within, s .on)
+  below-len = omega (arith, q .len, q .short-a, s .ready .within, s .on)
 
   pub below-count : c .announced + n < 2 ^ 64
-  below-count = omega (arith, q .announced, q .short, s .ready .within, s .few-on)
+  below-count = omega (arith, q .announced, q .short-a, s .ready .within, s .few-on)
 
 module _ (ra : Reading) (a : Bytes) (i : ℕ) (rb : Reading) (b : Bytes) (j : ℕ) (c : Counts) (q : Stands ra a i rb b j c) where
   pub stands-left : Ready ra a i
@@ -188,4 +188,11 @@ module _ (form : Form) (ra : Reading) (a : Bytes) (i : ℕ) (rb : Reading) (b : 
     pub pass-below : (v : Bytes) (s : Stand) → Wrote Snapshot Announced a i Changes b j c u v (s .left) (s .right) (s .counts) → Wrote form ra a i rb b j c u v (s .left) (s .right) (s .counts)
     pass-below v s w = rw (ef, ea, eb) w
 
-pub ruleset passing = (stands-left, stands-right, pass-skips, pass-stands, pass-below)
+  module _ (ef : form ≡ Delta) (ea : ra ≡ Changes) (eb : rb ≡ Changes) where
+    pub origins-stands : Stands ra a i rb b j c → Stands Changes a i Changes b j c
+    origins-stands s = rw (ea, eb) at s
+
+    pub pass-origins : (v : Bytes) (s : Stand) → Wrote Delta Changes a i Changes b j c u v (s .left) (s .right) (s .counts) → Wrote form ra a i rb b j c u v (s .left) (s .right) (s .counts)
+    pass-origins v s w = rw (ef, ea, eb) w
+
+pub ruleset passing = (origins-stands, pass-origins, stands-left, stands-right, pass-skips, pass-stands, pass-below)

@@ -57,33 +57,33 @@ key-octets kind b h o = go (eqb kind 3)
     go false = cons-bytes kind b h o
 
 module _ (form : Form) (s : Bytes) (at : ℕ) (g : GoodAt form s at) (h : at < length s) where
-  abbrev here : Found form s at
+  abbrev pub here : Found form s at
   here = found form s at g h
 
-  abbrev cell : Cell
+  abbrev pub cell : Cell
   cell = record { tag = here .tag; body = here .body }
 
-  abbrev next : ℕ
+  abbrev pub next : ℕ
   next = at + (3 + length (here .body))
 
-  reads : front (drop at s) ≡ whole (here .tag) (here .body) (drop next s)
+  pub reads : front (drop at s) ≡ whole (here .tag) (here .body) (drop next s)
   reads = rw (drop-drop (3 + length (here .body)) at s) at (front-same (drop at s) (drop at s) (here .tag) (here .body) (here .rest) (here .reads) refl)
 
-  said : entries form (drop at s) ≡ entryOf form cell ∷ entries form (drop next s)
+  pub said : entries form (drop at s) ≡ entryOf form cell ∷ entries form (drop next s)
   unfolding entries
   said = ap (map (entryOf form)) (cells-more (drop at s) (here .tag) (here .body) (drop next s) reads)
 
-  behind : GoodAt form s next
+  pub behind : GoodAt form s next
   behind = good-behind form s at (here .tag) (here .body) (drop next s) next g reads refl
 
-  within : next ≤ length s
+  pub within : next ≤ length s
   within =
       let o = opens (drop at s) (here .tag) (here .body) (here .rest) (here .reads) in
       let z : length (drop at s) ≡ 3 + (length (here .body) + length (here .rest)) = ap length (o .bytes) ∙ omega (arith, length-append (here .body) (here .rest)) in
       omega (arith, z, length-drop at s)
 
   -- its body lies behind its head
-  lies : here .body ≡ take (length (here .body)) (drop (at + 3) s)
+  pub lies : here .body ≡ take (length (here .body)) (drop (at + 3) s)
   lies =
       let o = opens (drop at s) (here .tag) (here .body) (here .rest) (here .reads) in
       let z : drop (at + 3) s ≡ here .body ++ here .rest = sym (drop-drop 3 at s) ∙ ap (drop 3) (o .bytes) in

@@ -394,7 +394,7 @@ pub ruleset stepping = (step-over, step-left, step-right, step-both, left-in, ri
 -- one piece of a walk behind another
 module _ (form : Form) (ra : Reading) (a : Bytes) (i : ℕ) (rb : Reading) (b : Bytes) (j : ℕ) (c : Counts) (o : Bytes) (o₁ : Bytes) (p q : ℕ) (c₁ : Counts)
     (v : Wrote form ra a i rb b j c o o₁ p q c₁) (o₂ : Bytes) (k l : ℕ) (c₂ : Counts) (w : Wrote form ra a p rb b q c₁ o₁ o₂ k l c₂) where
-  then : Wrote form ra a i rb b j c o o₂ k l c₂
+  pub then : Wrote form ra a i rb b j c o o₂ k l c₂
   then = record {
     written = v .written ++ w .written;
     is = v .is ∙ ap (λ (d : D). v .written ++ d) (w .is) ∙ sym (append-assoc (v .written) (w .written) (leftOf ra a k rb b l));
@@ -429,9 +429,11 @@ module _ (form : Form) (ra : Reading) (a : Bytes) (i : ℕ) (rb : Reading) (b : 
         record {
           ready-a = w .ready-a;
           ready-b = w .ready-b;
-          short = s .short-a;
+          short-a = s .short-a;
+          short-b = s .short-b;
           len = rw (w .counts) (omega (arith, r .len, w .short, s .short-a, s .short-b));
           announced = rw (w .counts) (omega (arith, r .announced, w .announced, s .short-a, s .short-b));
+          withdrawn = rw (w .counts) (omega (arith, r .withdrawn, w .withdrawn, s .short-a, s .short-b));
         }
 
     pub pass-on : (o″ : Bytes) (s : Stand) → Wrote form ra a p rb b q c′ o′ o″ (s .left) (s .right) (s .counts) → StepIs form ra a i rb b j c o o″ (step.On (s .left) (s .right) (s .counts))

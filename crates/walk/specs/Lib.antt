@@ -5,3 +5,4 @@ pub mod Turn
 pub mod Walk
 pub mod Skip
 pub mod Seek
+pub mod Origins

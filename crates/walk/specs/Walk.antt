@@ -61,13 +61,15 @@ pub record Wrote (form : Form) (ra : Reading) (a : Bytes) (i : ℕ) (rb : Readin
   pub on-a : i ≤ p
   pub on-b : j ≤ q
 
--- where a walk stands between two turns: the counts leave room for all of the left run
+-- where a walk stands between two turns: the counts leave room for all that is left
 pub record Stands (ra : Reading) (a : Bytes) (i : ℕ) (rb : Reading) (b : Bytes) (j : ℕ) (c : Counts) : Type 0 where
   pub ready-a : Ready ra a i
   pub ready-b : Ready rb b j
-  pub short : length a ≤ 33_554_432
+  pub short-a : length a ≤ 33_554_432
+  pub short-b : length b ≤ 33_554_432
   pub len : c .len < 2 ^ 63
   pub announced : c .announced < 2 ^ 63
+  pub withdrawn : c .withdrawn < 2 ^ 63
 
 module _ (form : Form) (ra : Reading) (a : Bytes) (i : ℕ) (rb : Reading) (b : Bytes) (j : ℕ) (c : Counts) (o o′ : Bytes) where
   abbrev pub StepMeans : Step → Type 0

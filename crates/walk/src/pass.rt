@@ -1,5 +1,6 @@
-// What the walk passes without a turn: the run that two snapshots have in common, which is no part of their difference, and
-// the run of a snapshot below a delta's next item, which is copied as it lies.
+// What the walk passes without a turn of its own: the run that two snapshots have in common, which is no part of their
+// difference; the run of a snapshot below a delta's next item, which is copied as it lies; the origins of two deltas.
+use crate::origins::put_origins;
 use crate::seek::bound_at;
 use crate::seek::seek;
 use crate::skip::skip;
@@ -58,6 +59,13 @@ pub(crate) fn put_pass(
         if let Reading::Announced = ra {
             if let Reading::Changes = rb {
                 return put_below(a, i, b, j, out, counts);
+            }
+        }
+    }
+    if let Form::Delta = form {
+        if let Reading::Changes = ra {
+            if let Reading::Changes = rb {
+                return put_origins(a, i, b, j, out, counts);
             }
         }
     }
