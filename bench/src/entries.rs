@@ -14,12 +14,12 @@ use crate::rust;
 pub enum Entry {
     /// Of a snapshot.
     Check,
-    /// Of a delta with about as many fields as the snapshot has.
+    /// Of a delta with as many fields as the snapshot has; of ASPAs two thirds.
     CheckDelta,
     Construct,
     /// Of deltas of about 1,000 changes, whatever the snapshots: the time depends on the deltas alone.
     Merge,
-    /// Of deltas with about as many fields as the snapshot has.
+    /// Of deltas as long as that of `CheckDelta`.
     MergeLong,
     Apply,
     Update,
@@ -63,6 +63,12 @@ pub const KINDS: [(&str, Shape, u32); 5] = [
     ("ASPAs", Shape::Aspas(6), 500_000),
     ("the mix", Shape::Mixed, 500_000),
 ];
+
+/// What is measured of a kind. Queries, whose histories take long to make, of IPv4 origins and of the mix alone.
+pub fn entries_of(shape: Shape) -> Vec<Entry> {
+    let queries = matches!(shape, Shape::Origins4 | Shape::Mixed);
+    ENTRIES.iter().copied().filter(|e| queries || !matches!(e, Entry::Query(_))).collect()
+}
 
 /// How many items are a small snapshot.
 pub const SMALL: u32 = 10_000;

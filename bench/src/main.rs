@@ -1,8 +1,8 @@
 //! Measures the library against the Rust, plain Rust on bytes and memcpy.
 //!
 //! - `bench race FOLDER [ROUNDS]` times all in one run, interleaved, and takes the best of each. It prints tables
-//!   of ratios and writes them to FOLDER/tables.md, and a plot to FOLDER/growth.svg. Times themselves say more of
-//!   a machine than of the library, so there are none. `bench/run` starts this.
+//!   of ratios and writes them to FOLDER/goals.md and FOLDER/tables.md, and a plot to FOLDER/growth.svg. Times
+//!   themselves say more of a machine than of the library, so there are none. `bench/run` starts this.
 //! - `bench names` prints what can be counted, and `bench count ENTRY KIND WHO TIMES` runs one of those so many
 //!   times and prints how many fields its inputs have. `bench/count` starts these.
 mod data;
@@ -18,7 +18,7 @@ mod tables;
 use std::path::Path;
 
 use data::{Data, Shape};
-use entries::{Entry, ENTRIES, KINDS, SMALL};
+use entries::{entries_of, Entry, ENTRIES, KINDS, SMALL};
 use race::Who;
 
 fn main() {
@@ -46,19 +46,20 @@ fn race_all(folder: &Path, rounds: u32) {
     let walks = [("most changes cancel", cancels), ("nothing cancels", grows)]
         .map(|(name, data)| (name, tables::measure(&distances, data, rounds)));
     let growing = &walks[1].1;
+    let goals = tables::goals(rounds, &sets, growing);
     let mut panels = Vec::new();
-    let mut out = tables::goals(&sets, growing);
-    if !rust::THERE {
-        out += "The Rust's source was not there.\n\n";
+    let tables = [
+        tables::others(&sets),
+        tables::kinds(&sets),
+        tables::beyond_checks(&sets, growing),
+        tables::growth_of_items(rounds, &mut panels),
+        tables::growth_of_distance(&walks, &mut panels),
+    ]
+    .concat();
+    print!("{goals}{tables}");
+    for (name, text) in [("goals.md", goals), ("tables.md", tables), ("growth.svg", plot::plot(&panels))] {
+        std::fs::write(folder.join(name), text).expect("the folder can be written");
     }
-    out += &tables::others(&sets);
-    out += &tables::kinds(&sets);
-    out += &tables::beyond_checks(&sets, growing);
-    out += &tables::growth_of_items(rounds, &mut panels);
-    out += &tables::growth_of_distance(&walks, &mut panels);
-    print!("{out}");
-    std::fs::write(folder.join("tables.md"), &out).expect("the folder can be written");
-    std::fs::write(folder.join("growth.svg"), plot::plot(&panels)).expect("the folder can be written");
 }
 
 /// Who is counted.
@@ -67,7 +68,7 @@ const COUNTED: [Who; 4] = [Who::Library, Who::Checks, Who::Parsed, Who::Plain];
 /// Each that is there, its words parted by tabs.
 fn names() {
     for (kind, shape, _) in KINDS {
-        entries::run(&ENTRIES, Data::new(shape, SMALL), &mut |entry, contest| {
+        entries::run(&entries_of(shape), Data::new(shape, SMALL), &mut |entry, contest| {
             for who in COUNTED.iter().filter(|who| contest.contenders[**who as usize].is_some()) {
                 println!("{entry}\t{kind}\t{who}");
             }

@@ -94,6 +94,10 @@ impl Rounds {
             _ => Rounds { turns: rounds, burst: 1 },
         }
     }
+
+    pub fn runs(self) -> u32 {
+        self.turns * self.burst
+    }
 }
 
 /// Whoever has worked for longer than this is excused from turns beyond the fifth.

@@ -2,10 +2,11 @@
 use std::fmt::Write;
 
 use crate::data::{Data, Shape};
-use crate::entries::{run, Entry, ENTRIES, KINDS, SMALL};
+use crate::entries::{entries_of, run, Entry, KINDS, SMALL};
 use crate::goals::{Inputs, BASE, GOALS};
 use crate::plot::{thousands, Line, Panel};
 use crate::race::{race, Rounds, Times, Who};
+use crate::rust;
 
 /// The best times for each entry on one set of inputs.
 pub struct Set {
@@ -38,15 +39,12 @@ pub fn measure(entries: &[Entry], data: Data, rounds: u32) -> Vec<(Entry, Times)
     times
 }
 
-/// Each kind, large and small. Queries, whose histories take long to make, of IPv4 origins and of the mix alone.
+/// Each kind, large and small.
 pub fn sets(rounds: u32) -> Vec<Set> {
     let both = (0..KINDS.len()).flat_map(|kind| [(kind, KINDS[kind].2), (kind, SMALL)]);
     both.map(|(kind, items)| {
         let shape = KINDS[kind].1;
-        let all = matches!(shape, Shape::Origins4 | Shape::Mixed);
-        let entries = ENTRIES.iter().copied().filter(|e| all || !matches!(e, Entry::Query(_)));
-        let times = measure(&entries.collect::<Vec<_>>(), Data::new(shape, items), rounds);
-        Set { kind, items, times }
+        Set { kind, items, times: measure(&entries_of(shape), Data::new(shape, items), rounds) }
     })
     .collect()
 }
@@ -75,7 +73,7 @@ fn number(ratio: Option<f64>) -> String {
     }
 }
 
-pub fn goals(sets: &[Set], growing: &[(Entry, Times)]) -> String {
+pub fn goals(rounds: u32, sets: &[Set], growing: &[(Entry, Times)]) -> String {
     let large = |shape: Shape| {
         sets.iter().find(|s| KINDS[s.kind].1 == shape && s.items == KINDS[s.kind].2).expect("it is measured")
     };
@@ -103,8 +101,10 @@ pub fn goals(sets: &[Set], growing: &[(Entry, Times)]) -> String {
         ]
     });
     let heads = strings("library : other", [&format!("base ({BASE})"), "now", "goal", "met"]);
+    let missing = if rust::THERE { "" } else { "The Rust's source was not there.\n\n" };
+    let (large, small) = (Rounds::new(rounds, SMALL + 1).runs(), Rounds::new(rounds, SMALL).runs());
     format!(
-        "## Goals\n\n500,000 IPv4 origins, of which about 1,000 change at each step, and in brackets the mix, held against the same goals. Where nothing cancels: 65,000 IPv4 origins, 1,000 more at each step.\n\n{}",
+        "## Goals\n\n500,000 IPv4 origins, of which about 1,000 change at each step, and in brackets the mix, held against the same goals. Where nothing cancels: 65,000 IPv4 origins, 1,000 more at each step. These and all ratios below are of one run, interleaved, the best of {large} runs of each, and of {small} on at most 10,000 items; who worked for more than a second ran less often.\n\n{missing}{}",
         table(&heads, rows)
     )
 }
@@ -173,7 +173,7 @@ const RACERS: [Who; 5] = [Who::Library, Who::Parsed, Who::Bytes, Who::Plain, Who
 
 /// The table and plot of growth with the items of a snapshot, up to what a snapshot can hold.
 pub fn growth_of_items(rounds: u32, panels: &mut Vec<Panel>) -> String {
-    let mut out = String::from("## Growth\n\n![how time grows](growth.svg)\n\nTime for each item of a snapshot, in units of the time at the fewest items. A snapshot of 16,777,216 bytes is the limit: 645,277 origins; 1,500,000 ASPAs of one provider are near it.\n\n");
+    let mut out = String::from("## Growth\n\n![how time grows](growth.svg)\n\nTime for each item of a snapshot, in units of the time at the fewest items. A snapshot of 16,777,216 bytes is the limit: 645,277 origins; 1,500,000 ASPAs of one provider are near it. In the plot both axes are logarithmic. Across stand the items of a snapshot, or how many serials the router is behind; up stands the time of one whole call, in units of the library's at the fewest items or at d = 1..\n\n");
     for (kind, shape, sizes) in [
         ("IPv4 origins", Shape::Origins4, [1_000, 10_000, 100_000, 645_277]),
         ("ASPAs of one provider", Shape::Aspas(1), [1_000, 10_000, 100_000, 1_500_000]),
