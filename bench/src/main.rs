@@ -65,11 +65,13 @@ fn race_all(folder: &Path, rounds: u32) {
 /// Who is counted.
 const COUNTED: [Who; 4] = [Who::Library, Who::Checks, Who::Parsed, Who::Plain];
 
-/// Each that is there, its words parted by tabs.
+/// Each that is there, its words parted by tabs. The plain check is left out where the Rust is beside the library.
 fn names() {
     for (kind, shape, _) in KINDS {
         entries::run(&entries_of(shape), Data::new(shape, SMALL), &mut |entry, contest| {
-            for who in COUNTED.iter().filter(|who| contest.contenders[**who as usize].is_some()) {
+            let there = |who: Who| contest.contenders[who as usize].is_some();
+            let left_out = |who: Who| who == Who::Plain && there(Who::Parsed);
+            for who in COUNTED.into_iter().filter(|who| there(*who) && !left_out(*who)) {
                 println!("{entry}\t{kind}\t{who}");
             }
         });

@@ -173,7 +173,7 @@ const RACERS: [Who; 5] = [Who::Library, Who::Parsed, Who::Bytes, Who::Plain, Who
 
 /// The table and plot of growth with the items of a snapshot, up to what a snapshot can hold.
 pub fn growth_of_items(rounds: u32, panels: &mut Vec<Panel>) -> String {
-    let mut out = String::from("## Growth\n\n![how time grows](growth.svg)\n\nTime for each item of a snapshot, in units of the time at the fewest items. A snapshot of 16,777,216 bytes is the limit: 645,277 origins; 1,500,000 ASPAs of one provider are near it. In the plot both axes are logarithmic. Across stand the items of a snapshot, or how many serials the router is behind; up stands the time of one whole call, in units of the library's at the fewest items or at d = 1..\n\n");
+    let mut out = String::from("## Growth\n\n![how time grows](growth.svg)\n\nTime for each item of a snapshot, in units of the time at the fewest items. A snapshot of 16,777,216 bytes is the limit: 645,277 origins; 1,500,000 ASPAs of one provider are near it. In the plot both axes are logarithmic. Across stand the items of a snapshot, or how many serials the router is behind; up stands the time of one whole call, in units of the library's at the fewest items or at d = 1. Up to 10,000 items the inputs stay in the nearest caches; beyond that they do not, and every contender takes longer for each item, memcpy most.\n\n");
     for (kind, shape, sizes) in [
         ("IPv4 origins", Shape::Origins4, [1_000, 10_000, 100_000, 645_277]),
         ("ASPAs of one provider", Shape::Aspas(1), [1_000, 10_000, 100_000, 1_500_000]),
