@@ -64,10 +64,13 @@ pub const KINDS: [(&str, Shape, u32); 5] = [
     ("the mix", Shape::Mixed, 500_000),
 ];
 
-/// What is measured of a kind. Queries, whose histories take long to make, of IPv4 origins and of the mix alone.
+/// Whether a kind is measured with queries, whose histories take long to make.
+pub fn in_full(shape: Shape) -> bool {
+    matches!(shape, Shape::Origins4 | Shape::Mixed)
+}
+
 pub fn entries_of(shape: Shape) -> Vec<Entry> {
-    let queries = matches!(shape, Shape::Origins4 | Shape::Mixed);
-    ENTRIES.iter().copied().filter(|e| queries || !matches!(e, Entry::Query(_))).collect()
+    ENTRIES.iter().copied().filter(|e| in_full(shape) || !matches!(e, Entry::Query(_))).collect()
 }
 
 /// How many items are a small snapshot.

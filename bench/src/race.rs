@@ -79,6 +79,10 @@ impl Times {
     }
 }
 
+/// How many fields of inputs stay in the cache, and how many are not yet large.
+pub const CACHED: usize = 25_000;
+pub const MIDDLE: usize = 250_000;
+
 /// How often the contenders take turns, and how often one works in its turn: small inputs stay in its cache.
 #[derive(Clone, Copy)]
 pub struct Rounds {
@@ -87,11 +91,11 @@ pub struct Rounds {
 }
 
 impl Rounds {
-    /// For large inputs these turns, for small ones best of 2,000 where the large ones have 15.
-    pub fn new(rounds: u32, items: u32) -> Self {
-        match items {
-            0..=10_000 => Rounds { turns: rounds * 20 / 3, burst: 20 },
-            _ => Rounds { turns: rounds, burst: 1 },
+    /// The best of 15 on large inputs is the best of 100 on smaller ones and of 2,000 on those that stay in the cache.
+    pub fn new(rounds: u32, fields: usize) -> Self {
+        Rounds {
+            turns: if fields <= MIDDLE { rounds * 20 / 3 } else { rounds },
+            burst: if fields <= CACHED { 20 } else { 1 },
         }
     }
 

@@ -2,10 +2,10 @@
 use std::fmt::Write;
 
 use crate::data::{Data, Shape};
-use crate::entries::{entries_of, run, Entry, KINDS, SMALL};
+use crate::entries::{entries_of, in_full, run, Entry, KINDS, SMALL};
 use crate::goals::{Inputs, BASE, GOALS};
 use crate::plot::{thousands, Line, Panel};
-use crate::race::{race, Rounds, Times, Who};
+use crate::race::{race, Rounds, Times, Who, CACHED, MIDDLE};
 use crate::rust;
 
 /// The best times for each entry on one set of inputs.
@@ -34,7 +34,7 @@ pub fn measure(entries: &[Entry], data: Data, rounds: u32) -> Vec<(Entry, Times)
     let mut times = Vec::new();
     run(entries, data, &mut |entry, mut contest| {
         eprintln!("{} items: {entry}", data.items);
-        times.push((entry, race(Rounds::new(rounds, data.items), &mut contest)));
+        times.push((entry, race(Rounds::new(rounds, contest.fields), &mut contest)));
     });
     times
 }
@@ -102,9 +102,10 @@ pub fn goals(rounds: u32, sets: &[Set], growing: &[(Entry, Times)]) -> String {
     });
     let heads = strings("library : other", [&format!("base ({BASE})"), "now", "goal", "met"]);
     let missing = if rust::THERE { "" } else { "The Rust's source was not there.\n\n" };
-    let (large, small) = (Rounds::new(rounds, SMALL + 1).runs(), Rounds::new(rounds, SMALL).runs());
+    let [small, middle, large] =
+        [CACHED, MIDDLE, MIDDLE + 1].map(|fields| Rounds::new(rounds, fields).runs());
     format!(
-        "## Goals\n\n500,000 IPv4 origins, of which about 1,000 change at each step, and in brackets the mix, held against the same goals. Where nothing cancels: 65,000 IPv4 origins, 1,000 more at each step. These and all ratios below are of one run, interleaved, the best of {large} runs of each, and of {small} on at most 10,000 items; who worked for more than a second ran less often.\n\n{missing}{}",
+        "## Goals\n\n500,000 IPv4 origins, of which about 1,000 change at each step, and in brackets the mix, held against the same goals. Where nothing cancels: 65,000 IPv4 origins, 1,000 more at each step. These and all ratios below are of one run, interleaved, the best of {large} runs of each, of {middle} on inputs of at most 250,000 fields, and of {small} on at most 25,000, which stay in the cache; who worked for more than a second ran less often.\n\n{missing}{}",
         table(&heads, rows)
     )
 }
@@ -120,7 +121,7 @@ fn bracketed(cells: Vec<String>) -> String {
 pub fn others(sets: &[Set]) -> String {
     let mut out = String::from("## The library against others\n\nHow many times as long as each the library takes. The Rust on parsed values checks nothing; from bytes it parses, and encodes what it made; the plain check is plain Rust for 01's rules over the same inputs; memcpy copies them. The check is a call that checks its first argument and then refuses the second, one bad byte. Merges are of two deltas of about 1,000 changes, and of two with as many fields as the snapshot has items. A query and an update check the whole history that they are lent, here of 64 deltas and of 2. The Rust has no application and no query from bytes, its query at d = 1 copies a pointer, and it has no way to parse a delta but by way of snapshots.\n\n");
     let against = [Who::Parsed, Who::Bytes, Who::Plain, Who::Memcpy];
-    for set in sets.iter().filter(|s| matches!(KINDS[s.kind].1, Shape::Origins4 | Shape::Mixed)) {
+    for set in sets.iter().filter(|s| in_full(KINDS[s.kind].1)) {
         let row = |(entry, times): &(Entry, Times)| {
             strings(&entry.to_string(), against.map(|who| number(times.against(who))))
         };
@@ -161,7 +162,7 @@ pub fn beyond_checks(sets: &[Set], growing: &[(Entry, Times)]) -> String {
     let table_of = |times: &[(Entry, Times)]| {
         table(&heads, times.iter().filter(|(_, times)| times.of(Who::Checks).is_some()).map(row))
     };
-    for set in sets.iter().filter(|s| matches!(KINDS[s.kind].1, Shape::Origins4 | Shape::Mixed)) {
+    for set in sets.iter().filter(|s| in_full(KINDS[s.kind].1)) {
         write!(out, "### {}\n\n{}", set.name(), table_of(&set.times)).expect("a string takes all");
     }
     out + "### 65,000 IPv4 origins, nothing cancels\n\n" + &table_of(growing)
