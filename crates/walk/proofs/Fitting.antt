@@ -45,7 +45,8 @@ use Rattle.walk.specs.Seek.{Bounds, Seeks}
 use Rattle.walk.specs.declared.fit.FitStep.{FitStep}
 use Rattle.walk.specs.declared.fit.FitStep.the-variants as fit-step
 use Rattle.walk.specs.Turn.{TurnIs, TurnMeans}
-use Rattle.walk.specs.Fit.{misfit, fitOf, absentPlace, valuePlace, Pairs, Onward, Past, FitStepMeans, FitStepIs}
+use Rattle.walk.specs.Fit.{misfit, fitOf}
+use Rattle.walk.specs.Fitting.{absentPlace, valuePlace, Pairs, Onward, Past, FitStepMeans, FitStepIs}
 use Rattle.item.proofs.Sinking.{fits-withdraw, fits-former}
 
 -- ---- the small functions

@@ -21,7 +21,8 @@ ghost use Rattle.change.specs.Application.{fits, isEqual};
 ghost use Rattle.field.specs.Cells.{cells};
 ghost use Rattle.item.specs.Place.{partIn, changeIn, PartFits, ActFits};
 ghost use Rattle.item.specs.Reading.{Ready};
-ghost use Rattle.walk.specs.Fit.{misfit, absentPlace, valuePlace, fitOf, Pairs, Past, FitStepIs};
+ghost use Rattle.walk.specs.Fit.{misfit, fitOf};
+ghost use Rattle.walk.specs.Fitting.{absentPlace, valuePlace, Pairs, Past, FitStepIs};
 
 pub enum Fit {
     All,
