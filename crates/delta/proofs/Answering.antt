@@ -35,23 +35,23 @@ use Rattle.delta.specs.declared.refusal.Refusal.{Refusal}
 use Rattle.delta.specs.declared.refusal.Refusal.the-variants as refusal
 use Rattle.delta.specs.declared.admit.Admitted.{Admitted}
 use Rattle.delta.specs.declared.admit.Admitted.the-variants.{Yes, No}
-use Rattle.delta.specs.declared.fit.Fit.{Fit}
-use Rattle.delta.specs.declared.fit.Fit.the-variants as fit
-use Rattle.delta.specs.declared.sink.Counts.{Counts}
-use Rattle.delta.specs.declared.reading.Reading.{Reading}
-use Rattle.delta.specs.declared.reading.Reading.the-variants.{Withdrawn, Announced, Changes}
-use Rattle.delta.specs.declared.walk.Output.{Output}
-use Rattle.delta.specs.declared.walk.Output.the-variants.{NoRoom, Written}
+use Rattle.walk.specs.declared.fit.Fit.{Fit}
+use Rattle.walk.specs.declared.fit.Fit.the-variants as fit
+use Rattle.item.specs.declared.sink.Counts.{Counts}
+use Rattle.item.specs.declared.reading.Reading.{Reading}
+use Rattle.item.specs.declared.reading.Reading.the-variants.{Withdrawn, Announced, Changes}
+use Rattle.walk.specs.declared.walk.Output.{Output}
+use Rattle.walk.specs.declared.walk.Output.the-variants.{NoRoom, Written}
 use Rattle.delta.specs.declared.construct.Constructed.the-variants as constructed
 use Rattle.delta.specs.declared.merge.Merged.the-variants as merged
 use Rattle.delta.specs.declared.apply.Applied.the-variants as applied
 use Rattle.delta.specs.Admission.{Inputs, andThen, limitOf, judgedOf, refusalOf, admitOf}
-use Rattle.delta.specs.Reading.{formOf, Ready}
-use Rattle.delta.specs.Write.{cellAs, writes, plusAll, zero}
-use Rattle.delta.specs.Walk.{Runs, mergedAs, outputOf, wholeOut}
-use Rattle.delta.specs.Fit.{misfit, fitOf}
+use Rattle.item.specs.Reading.{formOf, Ready}
+use Rattle.item.specs.Write.{cellAs, writes, plusAll, zero}
+use Rattle.walk.specs.Walk.{Runs, mergedAs, outputOf, wholeOut}
+use Rattle.walk.specs.Fit.{misfit, fitOf}
 use Rattle.delta.specs.Answer.{differenceOf, mergedOf, appliedOf, countsOf, outAfter, constructOf, constructOut, mergeOf, mergeOut, applyOf, applyOut}
-use Rattle.delta.proofs.Putting.{counts-path}
+use Rattle.item.proofs.Putting.{counts-path}
 
 -- ---- what was admitted is good, and within its limit
 

@@ -23,7 +23,7 @@ use Rattle.payload.proofs.Closed.{merge-map}
 use Rattle.payload.proofs.Faithful.{faithful}
 use Rattle.payload.proofs.Sizes.{diff-length}
 use Rattle.delta.specs.declared.refusal.Refusal.the-variants.{NoRoom}
-use Rattle.delta.specs.declared.sink.Counts.{Counts}
+use Rattle.item.specs.declared.sink.Counts.{Counts}
 use Rattle.delta.specs.declared.admit.Admitted.the-variants.{Yes}
 use Rattle.delta.specs.declared.construct.Constructed.the-variants as constructed
 use Rattle.delta.specs.declared.merge.Merged.the-variants as merged

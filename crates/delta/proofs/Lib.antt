@@ -1,13 +1,4 @@
 pub mod Admitting
-pub mod Sinking
-pub mod Putting
-pub mod Tabling
-pub mod Readings
-pub mod Places
-pub mod Entries
-pub mod Turning
-pub mod Walking
-pub mod Fitting
 pub mod Answering
 pub mod Differences
 pub mod Demand

@@ -1,13 +1,13 @@
 // A delta applied to a snapshot.
 use crate::admit::Admitted;
 use crate::admit::admit;
-use crate::fit::Fit;
-use crate::fit::first_misfit;
-use crate::reading::Reading;
 use crate::refusal::Refusal;
-use crate::walk::Output;
-use crate::walk::put_whole;
 use field::tag::Form;
+use item::reading::Reading;
+use walk::fit::Fit;
+use walk::fit::first_misfit;
+use walk::walk::Output;
+use walk::walk::put_whole;
 ghost use mathlib.Core.Path.{_≡_};
 ghost use lib.ListN.{length};
 ghost use Rattle.delta.specs.Answer.{applyOf, applyOut};

@@ -1,13 +1,6 @@
-// Difference, merge and application of snapshots and deltas as bytes.
+// Difference, merge and application of snapshots and deltas as bytes, with their refusals.
 pub mod admit;
 pub mod apply;
 pub mod construct;
-pub mod fit;
 pub mod merge;
-pub mod place;
-pub mod reading;
 pub mod refusal;
-pub mod sink;
-pub mod table;
-pub mod turn;
-pub mod walk;

@@ -1,13 +1,13 @@
 // The merge of two deltas.
 use crate::admit::Admitted;
 use crate::admit::admit;
-use crate::reading::Reading;
 use crate::refusal::Refusal;
-use crate::sink::Counts;
-use crate::walk::Output;
-use crate::walk::put_whole;
 use field::tag::Form;
+use item::reading::Reading;
+use item::sink::Counts;
 use serial::Serial;
+use walk::walk::Output;
+use walk::walk::put_whole;
 ghost use mathlib.Core.Path.{_≡_};
 ghost use lib.ListN.{length};
 ghost use Rattle.delta.specs.Answer.{mergeOf, mergeOut};

@@ -18,15 +18,9 @@ use Rattle.field.specs.Tag.{goodBody, kindOf}
 use Rattle.field.specs.Head.{front}
 use Rattle.field.specs.Verdict.{judge, verdictF, verdict}
 use Rattle.field.specs.Places.{part, fieldAt, keyIn, keyPlace}
+pub use Rattle.field.specs.Progress.{Judged}
 use Rattle.field.proofs.Fields.{end-at, cut-at, whole-at, body-ordered, body-within, field-less}
 use Rattle.field.proofs.Keys.{key-in}
-
--- what the check has found at `at`, behind the key k: the rest decides
-pub record Judged (form : Form) (s : List ℕ) (at : ℕ) (k : Key) : Type 0 where
-  pub fuel : ℕ
-  pub enough : length s - at < fuel
-  pub within : at ≤ length s
-  pub rest : verdictF form fuel at (keyIn s k) (drop at s) ≡ verdict form s
 
 pub judged-start : (form : Form) (s : List ℕ) → Judged form s 0 (record { kind = 0; from = 0; to = 0 })
 unfolding verdict

@@ -1,5 +1,7 @@
 pub mod Comparing
 pub mod Numbers
+pub mod Eights
+pub mod Masks
 pub mod Prefixes
 pub mod Bodies
 pub mod Ascent
@@ -9,8 +11,11 @@ pub mod Fronts
 pub mod Fields
 pub mod Keys
 pub mod Judging
+pub mod Fieldwords
+pub mod Passing
 pub mod Run
 pub mod Encode
 pub mod Walk
+pub mod Common
 pub mod Sizes
 pub mod Examples

@@ -12,3 +12,6 @@ pub mod Cells
 pub mod Run
 -- what the code's places stand for
 pub mod Places
+-- how far a check has come
+pub mod Words
+pub mod Progress

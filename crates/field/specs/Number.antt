@@ -1,6 +1,6 @@
 -- Numbers of several bytes: big-endian.
-use Prim.Native.Nat.{ℕ, _+_, _*_}
-use mathlib.Core.List.{List}
+use Prim.Native.Nat.{ℕ, _+_, _*_, _/_, _%_}
+use mathlib.Core.List.{List, [], _∷_, _++_}
 use lib.ListN.{getD}
 use Rattle.serial.specs.declared.Asn.{Asn}
 
@@ -19,6 +19,20 @@ twoAt s i = two (getD s i 0) (getD s (i + 1) 0)
 -- the number of the four bytes at i
 abbrev pub fourAt : List ℕ → ℕ → ℕ
 fourAt s i = four (getD s i 0) (getD s (i + 1) 0) (getD s (i + 2) 0) (getD s (i + 3) 0)
+
+-- the number of the eight bytes at i
+unfoldable pub wordAt : List ℕ → ℕ → ℕ
+wordAt s i = fourAt s i * 4_294_967_296 + fourAt s (i + 4)
+
+-- the two, four and eight bytes of a number, the highest first
+unfoldable pub twoBytes : ℕ → List ℕ
+twoBytes n = n / 256 ∷ n % 256 ∷ []
+
+unfoldable pub fourBytes : ℕ → List ℕ
+fourBytes n = twoBytes (n / 65_536) ++ twoBytes (n % 65_536)
+
+unfoldable pub wordBytes : ℕ → List ℕ
+wordBytes w = fourBytes (w / 4_294_967_296) ++ fourBytes (w % 4_294_967_296)
 
 -- the AS number at i
 abbrev pub asnAt : List ℕ → ℕ → Asn

@@ -1,8 +1,8 @@
 // Keys: what fields are matched and ordered by.
 use crate::compare::compare;
+use crate::number::lower;
 use order::Ordering;
 ghost use mathlib.Core.Path.{_≡_};
-ghost use Prim.Native.Nat.{min};
 ghost use Rattle.order.specs.Comparison.{bytes};
 ghost use Rattle.field.specs.Places.{keyIn, keyPlace};
 
@@ -29,16 +29,6 @@ pub fn key_at(kind: u8, from: usize, to: usize) -> Key
         }
     }
     Key { kind, from, to }
-}
-
-// The lower of two places.
-fn lower(x: usize, y: usize) -> usize
-    ensures { λ r. ⌜ r ≡ min x y ⌝ }
-{
-    if x < y {
-        return x;
-    }
-    y
 }
 
 // How key x of a stands to key y of b. Of a place past the end only what lies within counts.

@@ -8,3 +8,4 @@ pub mod origin;
 pub mod router_key;
 pub mod tag;
 pub mod verdict;
+pub mod words;

@@ -1,61 +1,17 @@
 // The body of an origin.
 use crate::number::wide;
+use crate::number::word_at;
+use crate::words::clean_halves;
 ghost use mathlib.Core.Path.{_≡_};
-ghost use Prim.Native.Nat.{_-_, _^_};
 ghost use lib.ListN.{length};
-ghost use Rattle.field.specs.Origin.{cleanByte, clean, goodPrefix, goodOrigin};
+ghost use Rattle.field.specs.Origin.{address, clean, goodPrefix, goodOrigin};
 
-// 2 to the number of a byte's bits that lie past a prefix of p bits.
-fn unit(p: usize) -> usize
-    ensures { λ r. ⌜ r ≡ 2 ^ (8 - p) ⌝ }
+// Whether the address of an origin's body has no bit past a prefix of p bits, by its two halves.
+fn clean_address(p: usize, body: &[u8]) -> bool
+    requires { ⌜ length (now body) ≡ 23 ⌝ }
+    ensures { λ r. ⌜ r ≡ clean p (address (now (body .entry))) ⌝ }
 {
-    match p {
-        0 => 256,
-        1 => 128,
-        2 => 64,
-        3 => 32,
-        4 => 16,
-        5 => 8,
-        6 => 4,
-        7 => 2,
-        _ => 1,
-    }
-}
-
-// Whether the byte x has no bit past a prefix of p bits.
-fn clean_byte(p: usize, x: u8) -> bool
-    ensures { λ r. ⌜ r ≡ cleanByte p x ⌝ }
-{
-    if x == 0 {
-        return true;
-    }
-    if 8 <= p {
-        return true;
-    }
-    x as usize % unit(p) == 0
-}
-
-// What is left of a prefix of p bits after a byte.
-fn after_byte(p: usize) -> usize
-    ensures { λ r. ⌜ r ≡ p - 8 ⌝ }
-{
-    if p < 8 { 0 } else { p - 8 }
-}
-
-// Whether the address has no bit past a prefix of p bits.
-fn clean_address(p: usize, address: &[u8]) -> bool
-    ensures { λ r. ⌜ r ≡ clean p (now (address .entry)) ⌝ }
-{
-    let mut left = p;
-    let mut i = 0;
-    while i < address.len() {
-        if !clean_byte(left, address[i]) {
-            return false;
-        }
-        left = after_byte(left);
-        i += 1;
-    }
-    true
+    clean_halves(p, word_at(body, 1), word_at(body, 9))
 }
 
 // The lengths and the address of an origin, with the longest prefix of its family.
@@ -71,7 +27,7 @@ fn prefix_ok(bound: usize, body: &[u8]) -> bool
     if bound < maximum {
         return false;
     }
-    clean_address(prefix, &body[1..17])
+    clean_address(prefix, body)
 }
 
 // Whether this is the body of an origin.

@@ -17,7 +17,7 @@ use Rattle.payload.specs.Limit.{limit}
 use Rattle.delta.specs.declared.refusal.Refusal.the-variants.{TooLong}
 use Rattle.delta.specs.declared.admit.Admitted.the-variants.{Yes, No}
 use Rattle.delta.specs.Admission.{refusalOf, andThen, admitOneOf}
-use Rattle.delta.proofs.Places.{drop-take}
+use Rattle.item.proofs.Places.{drop-take}
 use Rattle.past.specs.declared.state.History.{History}
 use Rattle.past.specs.Store.{total, cuts, joined, heldSnapshot, heldLengths, heldDeltas, lengthsOf, storeAfter}
 use Rattle.past.specs.WellFormed.{isFine, isGood, every, goodKeep, inRange, goodSerial, goodStart, wellFormed}

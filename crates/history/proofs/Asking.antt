@@ -22,12 +22,12 @@ use Rattle.delta.specs.declared.refusal.Refusal.{Refusal}
 use Rattle.delta.specs.declared.refusal.Refusal.the-variants.{NoRoom, OtherSession, NotServed, IllFormed}
 use Rattle.delta.specs.declared.admit.Admitted.{Admitted}
 use Rattle.delta.specs.declared.admit.Admitted.the-variants.{Yes, No}
-use Rattle.delta.specs.declared.sink.Counts.{Counts}
-use Rattle.delta.specs.declared.walk.Output.{Output}
-use Rattle.delta.specs.declared.walk.Output.the-variants as output
+use Rattle.item.specs.declared.sink.Counts.{Counts}
+use Rattle.walk.specs.declared.walk.Output.{Output}
+use Rattle.walk.specs.declared.walk.Output.the-variants as output
 use Rattle.delta.specs.Admission.{andThen}
 use Rattle.delta.specs.Answer.{outAfter}
-use Rattle.delta.specs.Walk.{outputOf, wholeOut}
+use Rattle.walk.specs.Walk.{outputOf, wholeOut}
 use Rattle.delta.proofs.Answering.{delta-room, delta-written, delta-out}
 use Rattle.past.specs.declared.state.History.{History}
 use Rattle.past.specs.declared.query.Answer.the-variants.{Served}

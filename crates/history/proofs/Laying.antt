@@ -9,9 +9,9 @@ use lib.Seq.{sets, sets-eq, drop-cons, drop-drop, drop-set-lt, getD-drop, take-l
 use Rattle.field.specs.declared.tag.Form.the-variants.{Delta}
 use Rattle.payload.specs.Content.{Bytes}
 use Rattle.payload.specs.Payload.{encode}
-use Rattle.delta.specs.declared.reading.Reading.the-variants.{Withdrawn, Announced}
-use Rattle.delta.specs.Write.{writes}
-use Rattle.delta.specs.Walk.{Runs, mergedAs}
+use Rattle.item.specs.declared.reading.Reading.the-variants.{Withdrawn, Announced}
+use Rattle.item.specs.Write.{writes}
+use Rattle.walk.specs.Walk.{Runs, mergedAs}
 use Rattle.delta.specs.Answer.{differenceOf}
 use Rattle.delta.proofs.Answering.{runs-of, difference-is}
 use Rattle.past.specs.Store.{storeAfter}

@@ -1,7 +1,4 @@
-pub mod Standing
-pub mod Lowering
-pub mod Gathering
-pub mod Stepping
+pub mod Sizing
 pub mod Putting
 pub mod Placing
 pub mod Asking

@@ -5,6 +5,8 @@ use mathlib.Core.List.{List, [], _∷_, map}
 use native.Mathlib.Omega.{arith}
 use native.Mathlib.Decide.{ℕ-discrete}
 use lib.ListN.{length, getD, take, drop, set, length-set, length-take, length-drop, length-map}
+use mir.Val.{Fits}
+use mir.Syntax.{w8}
 use lib.Seq.{take-nil, take-take, drop-cons, drop-drop, getD-take, getD-set-same, getD-set-other}
 use Rattle.order.specs.Comparison.{bytes}
 use Rattle.order.specs.Map.{All, Sorted}
@@ -18,15 +20,19 @@ use Rattle.field.proofs.Walk.{good-start}
 use Rattle.payload.specs.Content.{Bytes, entryOf}
 use Rattle.payload.specs.Payload.{entries, changes}
 use Rattle.payload.proofs.Faithful.{faithful}
-use Rattle.delta.specs.declared.walk.Output.{Output}
-use Rattle.delta.specs.Walk.{outputOf, wholeOut}
-use Rattle.delta.proofs.Places.{drop-take}
+use Rattle.walk.specs.declared.walk.Output.{Output}
+use Rattle.item.specs.Write.{writes}
+use Rattle.walk.specs.Walk.{outputOf, wholeOut}
+use Rattle.item.proofs.Places.{drop-take}
 use Rattle.history.specs.declared.place.Places.{Places}
 use Rattle.past.specs.Store.{total, cuts}
-use Rattle.history.specs.Cursor.{D, run, runsN, runs, leftOf, itemsIn, itemsLeft, Stands, Bounded}
+use Rattle.cursors.specs.Cursor.{D, run, runsN, runs, leftOf, itemsIn, itemsLeft, Stands, Bounded}
 use Rattle.history.specs.Place.{Summed, Placed, IsFine, Stored, lastMerged}
 use Rattle.past.proofs.Lists.{all-map}
 use Rattle.past.proofs.Store.{cuts-length}
+use Rattle.history.specs.Push.{between}
+use Rattle.item.proofs.Fronts.{drop-bytes}
+use Rattle.history.proofs.Sizing.{merged-size}
 
 -- ---- sums
 
@@ -164,6 +170,11 @@ module _ (s : Bytes) (lengths : List ℕ) (n : ℕ) (r : Places) (p : Placed len
       rw (drop-cons lengths i 0 l) (ap₂ (λ (x : D) (y : List D). x ∷ y) a (runs-are (suc i) m (omega arith) ∙ rw b))
 
   module _ (d : ℕ) (h : d ≤ n) where
+    cuts-tail : cuts (take (n - (n - d)) (drop (n - d) lengths)) (drop (total (take (n - d) lengths)) s) ≡ drop (n - d) (cuts (take n lengths) s)
+    cuts-tail =
+        ap₂ cuts (sym (drop-take (n - d) n lengths)) (ap (λ (l : List ℕ). drop (total l) s) (sym (take-take (n - d) n lengths (omega arith))))
+        ∙ sym (cuts-drop (n - d) (take n lengths) s)
+
     tail-is : runs s (r .at) (r .ends) (n - d) n ≡ map changes (drop (n - d) (cuts (take n lengths) s))
     tail-is =
         let e : n - (n - d) ≡ n - (n - d) = refl in
@@ -212,6 +223,15 @@ module _ (s : Bytes) (lengths : List ℕ) (n : ℕ) (r : Places) (p : Placed len
           let f = items-few (take (n - (n - d)) (drop (n - d) lengths)) (drop (total (take (n - d) lengths)) s) in
           rw (runs-are (n - d) (n - (n - d)) (omega arith)) (omega (arith, length-drop (total (take (n - d) lengths)) s, t .small))
 
+      pub last-most : ((i : ℕ) → Fits w8 (getD s i 0)) → (m : ℕ) → m ≡ total (between lengths (n - d) n) →
+          length (writes Delta (leftOf s (r .at) (r .ends) (n - d) n)) ≤ m
+      last-most o m e =
+          let f : All IsFine (cuts (take (n - (n - d)) (drop (n - d) lengths)) (drop (total (take (n - d) lengths)) s)) =
+          rw cuts-tail (all-drop IsFine (n - d) (cuts (take n lengths) s) (t .good)) in
+          rw (e, runs-are (n - d) (n - (n - d)) (omega arith))
+          (merged-size (take (n - (n - d)) (drop (n - d) lengths)) (drop (total (take (n - d) lengths)) s)
+          (drop-bytes (total (take (n - d) lengths)) s (λ i. o i .fits)) f)
+
       pub last-bounded : Bounded s (r .at) (r .ends) (n - d) n
       last-bounded = record {
         walks = record {
@@ -230,4 +250,10 @@ module _ (s : Bytes) (lengths : List ℕ) (n : ℕ) (r : Places) (p : Placed len
 pub stored-summed : (s : Bytes) (lengths : List ℕ) (n : ℕ) → Stored s lengths n → Summed lengths n
 stored-summed s lengths n t = record { few = t .few; small = omega (arith, t .fits, t .small) }
 
-pub ruleset lasting = (stored-summed, last-bounded, last-output, last-bytes)
+pub last-ordered : (n d : ℕ) → n - d ≤ n
+last-ordered n d = omega arith
+
+pub last-few : (s : Bytes) (lengths : List ℕ) (n : ℕ) → Stored s lengths n → n ≤ 64
+last-few s lengths n t = t .few
+
+pub ruleset lasting = (stored-summed, last-ordered, last-few, last-most, last-bounded, last-output, last-bytes)

@@ -8,17 +8,21 @@ use lib.Seq.{sets, length-sets}
 use Rattle.field.specs.declared.tag.Form.the-variants.{Delta}
 use Rattle.field.specs.declared.key.Key.{Key}
 use Rattle.payload.specs.Content.{Bytes}
-use Rattle.delta.specs.declared.place.Act.{Act}
-use Rattle.delta.specs.declared.sink.Counts.{Counts}
-use Rattle.delta.specs.Place.{changeIn, itemIn, ActFits, KeyIn}
-use Rattle.delta.specs.Write.{fieldAs, writes, plusItem, plusAll, zero, Room}
-use Rattle.delta.proofs.Walking.{Left-over, none-counts, none-bytes, left-one, one-small, announces-one, withdraws-one, whole-long, whole-long-bytes, whole-fits, whole-bytes}
-use Rattle.history.specs.declared.next.Step.{Step}
-use Rattle.history.specs.declared.next.Step.the-variants.{End, Item}
-use Rattle.history.specs.Cursor.{leftOf, itemsLeft, Walks, ItemFits, NextIs, Bounded}
+use Rattle.item.specs.declared.place.Act.{Act}
+use Rattle.item.specs.declared.sink.Counts.{Counts}
+use Rattle.item.specs.Place.{changeIn, itemIn, ActFits, KeyIn}
+use Rattle.item.specs.Write.{fieldAs, writes, plusItem, plusAll, zero, Room}
+use Rattle.walk.proofs.Walking.{Left-over, none-counts, none-bytes, left-one, one-small, announces-one, withdraws-one, whole-long, whole-long-bytes, whole-fits, whole-bytes}
+use Rattle.cursors.specs.declared.next.Step.{Step}
+use Rattle.cursors.specs.declared.next.Step.the-variants.{End, Item}
+use Rattle.cursors.specs.Cursor.{leftOf, itemsLeft, Within, Walks, ItemFits, NextIs, Bounded}
+use Rattle.cursors.specs.Front.{Fronted, line}
+use Rattle.history.proofs.Sizing.{sure-fits, sure-bytes}
 
 -- what was written, with what is left, is the whole; each item that is left counts for at most 40,000 bytes
-pub record Putting (s : Bytes) (at₀ ends : List ℕ) (from n : ℕ) (o₀ : Bytes) (at : List ℕ) (o : Bytes) (c : Counts) : Type 0 where
+pub record Putting (s : Bytes) (at₀ ends f₀ : List ℕ) (from n : ℕ) (o₀ : Bytes) (at f : List ℕ) (o : Bytes) (c : Counts) : Type 0 where
+  pub fronted : Fronted s at ends from n f
+  pub long-f : length f ≡ length f₀
   pub walks : Walks s at ends from n
   pub same-long : length at ≡ length at₀
   pub long : length o ≡ length o₀
@@ -27,8 +31,13 @@ pub record Putting (s : Bytes) (at₀ ends : List ℕ) (from n : ℕ) (o₀ : By
   pub withdrawn : c .withdrawn + itemsLeft s at ends from n ≤ 33_554_432
   pub left : Left-over Delta c o (leftOf s at ends from n) zero o₀ (leftOf s at₀ ends from n)
 
-pub put-start : (s : Bytes) (at ends : List ℕ) (from n : ℕ) (o : Bytes) → Bounded s at ends from n → Putting s at ends from n o at o zero
-put-start s at ends from n o b = record {
+pub put-within : (s : Bytes) (at ends : List ℕ) (from n : ℕ) → Bounded s at ends from n → Within s at ends n
+put-within s at ends from n b = b .walks .within
+
+pub put-start : (s : Bytes) (at ends f : List ℕ) (from n : ℕ) (o : Bytes) → Bounded s at ends from n → Fronted s at ends from n f → Putting s at ends f from n o at f o zero
+put-start s at ends f from n o b u = record {
+  fronted = u;
+  long-f = refl;
   walks = b .walks;
   same-long = refl;
   long = refl;
@@ -38,7 +47,10 @@ put-start s at ends from n o b = record {
   left = record { counts = refl; laid = refl };
 }
 
-module _ (s : Bytes) (at₀ ends : List ℕ) (from n : ℕ) (o₀ : Bytes) (at : List ℕ) (o : Bytes) (c : Counts) (i : Putting s at₀ ends from n o₀ at o c) where
+module _ (s : Bytes) (at₀ ends f₀ : List ℕ) (from n : ℕ) (o₀ : Bytes) (at f : List ℕ) (o : Bytes) (c : Counts) (i : Putting s at₀ ends f₀ from n o₀ at f o c) where
+  pub put-fronted : Fronted s at ends from n f
+  put-fronted = i .fronted
+
   pub put-walks : Walks s at ends from n
   put-walks = i .walks
 
@@ -65,11 +77,13 @@ module _ (s : Bytes) (at₀ ends : List ℕ) (from n : ℕ) (o₀ : Bytes) (at :
       pub put-less : itemsLeft s at′ ends from n < itemsLeft s at ends from n
       put-less = item .1
 
-      pub put-again : (c′ : Counts) (o′ : Bytes) → c′ ≡ plusItem Delta c (itemIn s s key act) →
-          o′ ≡ sets o (c .len) (fieldAs Delta (itemIn s s key act)) → Putting s at₀ ends from n o₀ at′ o′ c′
-      put-again c′ o′ ec eo =
+      pub put-again : (f′ : List ℕ) → Fronted s at′ ends from n f′ → (c′ : Counts) (o′ : Bytes) → c′ ≡ plusItem Delta c (itemIn s s key act) →
+          o′ ≡ sets o (c .len) (fieldAs Delta (itemIn s s key act)) → Putting s at₀ ends f₀ from n o₀ at′ f′ o′ c′
+      put-again f′ u c′ o′ ec eo =
           let m = one-small Delta s s key act put-key put-act in
           record {
+            fronted = u;
+            long-f = line u .blocks .long ∙ sym (line (i .fronted) .blocks .long) ∙ i .long-f;
             walks = x .walks;
             same-long = x .walks .within .long ∙ sym (i .walks .within .long) ∙ i .same-long;
             long = ap length eo ∙ length-sets o (c .len) (fieldAs Delta (itemIn s s key act)) ∙ i .long;
@@ -83,7 +97,7 @@ module _ (s : Bytes) (at₀ ends : List ℕ) (from n : ℕ) (o₀ : Bytes) (at :
 abbrev pub measure : Bytes → List ℕ → List ℕ → ℕ → ℕ → ℕ
 measure = itemsLeft
 
-pub ruleset putting = (put-start, put-walks, put-room, put-counts, put-bytes, put-key, put-act, put-less, put-again)
+pub ruleset putting = (put-within, put-start, put-fronted, put-walks, put-room, put-counts, put-bytes, put-key, put-act, put-less, put-again)
 
 -- the whole of it, or nothing: as for the merge of two
-pub ruleset wholes = (whole-long, whole-long-bytes, whole-fits, whole-bytes)
+pub ruleset wholes = (sure-fits, sure-bytes, whole-long, whole-long-bytes, whole-fits, whole-bytes)

@@ -14,11 +14,11 @@ use Rattle.delta.specs.declared.refusal.Refusal.{Refusal}
 use Rattle.delta.specs.declared.refusal.Refusal.the-variants.{IllFormed, StoreFull}
 use Rattle.delta.specs.declared.admit.Admitted.{Admitted}
 use Rattle.delta.specs.declared.admit.Admitted.the-variants.{Yes, No}
-use Rattle.delta.specs.declared.reading.Reading.the-variants.{Withdrawn, Announced}
-use Rattle.delta.specs.declared.sink.Counts.{Counts}
+use Rattle.item.specs.declared.reading.Reading.the-variants.{Withdrawn, Announced}
+use Rattle.item.specs.declared.sink.Counts.{Counts}
 use Rattle.delta.specs.Admission.{admitOneOf}
-use Rattle.delta.specs.Write.{plusAll, zero}
-use Rattle.delta.specs.Walk.{Runs, mergedAs}
+use Rattle.item.specs.Write.{plusAll, zero}
+use Rattle.walk.specs.Walk.{Runs, mergedAs}
 use Rattle.delta.specs.Answer.{differenceOf, countsOf}
 use Rattle.delta.proofs.Answering.{runs-of, difference-is, counts-are}
 use Rattle.past.specs.declared.state.History.{History}

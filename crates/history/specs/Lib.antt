@@ -2,5 +2,4 @@
 pub mod Check
 pub mod Push
 pub mod Stage
-pub mod Cursor
 pub mod Place

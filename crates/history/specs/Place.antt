@@ -14,7 +14,7 @@ use Rattle.payload.specs.Content.{Bytes}
 use Rattle.payload.specs.Payload.{changes}
 use Rattle.history.specs.declared.place.Places.{Places}
 use Rattle.past.specs.Store.{total, cuts}
-use Rattle.history.specs.Cursor.{D}
+use Rattle.cursors.specs.Cursor.{D}
 
 -- n lengths that a delta store can have room for
 pub record Summed (lengths : List ℕ) (n : ℕ) : Type 0 where

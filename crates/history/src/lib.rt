@@ -1,11 +1,7 @@
 // The history of a server's snapshots and what it serves.
 pub mod create;
-pub mod cursor;
 pub mod full;
-pub mod gather;
-pub mod least;
 pub mod merged;
-pub mod next;
 pub mod notify;
 pub mod place;
 pub mod push;

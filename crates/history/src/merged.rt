@@ -1,20 +1,23 @@
-// The last deltas merged and written: measured first, so that nothing is written where not all of it fits.
-use crate::next::Step;
-use crate::next::next;
+// The last deltas merged and written: measured first unless they surely fit, so that nothing is written where not all
+// of it fits.
 use crate::place::Places;
 use crate::place::place_all;
-use delta::sink::Counts;
-use delta::sink::put_item;
-use delta::walk::Output;
+use crate::push::sum_lengths;
+use cursors::fronts::line_up;
+use cursors::next::Step;
+use cursors::next::next;
 use field::tag::Form;
+use item::sink::Counts;
+use item::sink::put_item;
+use walk::walk::Output;
 ghost use mathlib.Core.Path.{_≡_};
 ghost use Prim.Native.Nat.{_≤_};
 ghost use lib.ListN.{length};
 ghost use lib.Seq.{sets};
 ghost use Rattle.field.specs.declared.tag.Form.the-variants.{Delta};
-ghost use Rattle.delta.specs.Write.{plusAll, writes, zero};
-ghost use Rattle.delta.specs.Walk.{outputOf, wholeOut};
-ghost use Rattle.history.specs.Cursor.{Bounded, leftOf};
+ghost use Rattle.item.specs.Write.{plusAll, writes, zero};
+ghost use Rattle.walk.specs.Walk.{outputOf, wholeOut};
+ghost use Rattle.cursors.specs.Cursor.{Bounded, leftOf};
 ghost use Rattle.history.specs.Place.{Stored, lastMerged};
 
 // The merge of the runs from `from` up to n, as far as out has room; its counts whether it has room or not.
@@ -34,8 +37,10 @@ fn put_all(
         announced: 0,
         withdrawn: 0,
     };
+    let line = line_up(store, at, ends, from, n);
+    let mut f = line.of;
     loop {
-        let Step::Item(key, act) = next(store, at, ends, from, n) else {
+        let Step::Item(key, act) = next(store, at, ends, &mut f, from, n) else {
             return counts;
         };
         counts = put_item(Form::Delta, store, key, act, store, out, counts);
@@ -53,18 +58,28 @@ fn measure(store: &[u8], places: Places, from: usize, n: usize) -> Counts
     put_all(store, &mut at, &ends, from, n, &mut nothing)
 }
 
-// The merge, if out has room for all of it; else nothing is written.
-fn put_whole(store: &[u8], places: Places, from: usize, n: usize, out: &mut [u8]) -> Output
-    requires { ⌜ Bounded (now store) (places .at) (places .ends) from n ⌝ }
+// The merge, which has at most so many bytes, if out has room for all of it; else nothing is written.
+fn put_whole(
+    store: &[u8],
+    places: Places,
+    from: usize,
+    n: usize,
+    most: usize,
+    out: &mut [u8],
+) -> Output
+    requires { ⌜ Bounded (now store) (places .at) (places .ends) from n × (length (writes Delta (leftOf (now store) (places .at) (places .ends) from n)) ≤ most) ⌝ }
     ensures { λ r. ⌜ (r ≡ outputOf Delta (leftOf (now (store .entry)) (places .at) (places .ends) from n) (length (now (out .entry)))) × (now (out .exit) ≡ wholeOut Delta (leftOf (now (store .entry)) (places .at) (places .ends) from n) (now (out .entry))) ⌝ }
 {
+    let mut at = places.at;
+    let ends = places.ends;
+    if most <= out.len() {
+        return Output::Written(put_all(store, &mut at, &ends, from, n, out));
+    }
     let counts = measure(store, places, from, n);
     let len = counts.len;
     if out.len() < len {
         return Output::NoRoom;
     }
-    let mut at = places.at;
-    let ends = places.ends;
     put_all(store, &mut at, &ends, from, n, out);
     Output::Written(counts)
 }
@@ -81,5 +96,6 @@ pub(crate) fn merged_last(
     ensures { λ r. ⌜ (r ≡ outputOf Delta (lastMerged (now (store .entry)) lengths n d) (length (now (out .entry)))) × (now (out .exit) ≡ wholeOut Delta (lastMerged (now (store .entry)) lengths n d) (now (out .entry))) ⌝ }
 {
     let places = place_all(lengths, n);
-    put_whole(store, places, n - d, n, out)
+    let most = sum_lengths(lengths, n - d, n);
+    put_whole(store, places, n - d, n, most, out)
 }

@@ -1,9 +1,9 @@
 // The two lent stores: the current snapshot, and the deltas one behind the other.
-use delta::place::Part;
-use delta::reading::Reading;
-use delta::sink::copy;
-use delta::walk::put_merge;
 use field::tag::Form;
+use item::copy::copy;
+use item::place::Part;
+use item::reading::Reading;
+use walk::walk::put_merge;
 ghost use mathlib.Core.Path.{_≡_};
 ghost use mathlib.Core.List.{_++_};
 ghost use Prim.Native.Nat.{_+_, _≤_};

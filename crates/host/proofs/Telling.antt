@@ -5,7 +5,7 @@ use mathlib.Core.Bool.{Bool}
 use Rattle.serial.specs.declared.Serial.{Serial}
 use Rattle.serial.specs.declared.Session.{Session}
 use Rattle.delta.specs.declared.refusal.Refusal.{Refusal}
-use Rattle.delta.specs.declared.sink.Counts.{Counts}
+use Rattle.item.specs.declared.sink.Counts.{Counts}
 use Rattle.past.specs.declared.state.History.{History}
 use Rattle.past.specs.declared.create.Creation.{Creation}
 use Rattle.past.specs.declared.create.Creation.the-variants as creation

@@ -3,7 +3,7 @@ use delta::apply::Applied;
 use delta::construct::Constructed;
 use delta::merge::Merged;
 use delta::refusal::Refusal;
-use delta::sink::Counts;
+use item::sink::Counts;
 use serial::Serial;
 ghost use mathlib.Core.Path.{_≡_};
 ghost use Rattle.host.specs.Flat.{refused, wrote, ofLength, flatConstructed, flatMerged, flatApplied};

@@ -24,13 +24,13 @@ use Rattle.delta.specs.declared.refusal.Refusal.{Refusal}
 use Rattle.delta.specs.declared.refusal.Refusal.the-variants as refusal
 use Rattle.delta.specs.declared.admit.Admitted.{Admitted}
 use Rattle.delta.specs.declared.admit.Admitted.the-variants.{Yes, No}
-use Rattle.delta.specs.declared.sink.Counts.{Counts}
-use Rattle.delta.specs.declared.reading.Reading.the-variants.{Changes}
+use Rattle.item.specs.declared.sink.Counts.{Counts}
+use Rattle.item.specs.declared.reading.Reading.the-variants.{Changes}
 use Rattle.delta.specs.declared.construct.Constructed.{Constructed}
 use Rattle.delta.specs.declared.construct.Constructed.the-variants as constructed
 use Rattle.delta.specs.Admission.{Inputs, andThen, judgedOf, admitOneOf, admitOf}
-use Rattle.delta.specs.Write.{plusAll, zero}
-use Rattle.delta.specs.Walk.{Runs, mergedAs}
+use Rattle.item.specs.Write.{plusAll, zero}
+use Rattle.walk.specs.Walk.{Runs, mergedAs}
 use Rattle.delta.specs.Answer.{differenceOf, countsOf, outAfter, constructAt, constructOf, constructOut}
 use Rattle.delta.proofs.Answering.{admitted-inputs, runs-of, counts-are}
 use Rattle.delta.proofs.Demand.{difference-short}

@@ -15,7 +15,7 @@ use Rattle.field.proofs.Fields.{whole-at, cut-at, body-ordered, body-within, fi
 use Rattle.field.proofs.Run.{cells-at-cut}
 use Rattle.field.proofs.Walk.{good-end, good-cells}
 use Rattle.payload.specs.Content.{Bytes}
-use Rattle.delta.proofs.Sinking.{part-length}
+use Rattle.item.proofs.Sinking.{part-length}
 use Rattle.listing.specs.Put.{Puts}
 use Rattle.listing.specs.Text.{hexDigit}
 use Rattle.listing.specs.Listing.{mark, hex, hexes, lineOf, linesOf}

@@ -7,8 +7,8 @@ use native.Mathlib.Nat.{sub-zero}
 use lib.ListN.{length, length-append}
 use lib.Seq.{sets, length-sets, take-length}
 use Rattle.payload.specs.Content.{Bytes}
-use Rattle.delta.specs.Place.{partIn}
-use Rattle.delta.proofs.Sinking.{sets-append}
+use Rattle.item.specs.Place.{partIn}
+use Rattle.item.proofs.Sinking.{sets-append}
 use Rattle.listing.specs.Text.{decimal}
 use Rattle.listing.specs.Put.{Puts}
 use Rattle.listing.specs.Listing.{named}

@@ -15,7 +15,7 @@ use Rattle.payload.specs.Content.{Bytes}
 use Rattle.delta.specs.declared.refusal.Refusal.{Refusal}
 use Rattle.delta.specs.declared.refusal.Refusal.the-variants as refusal
 use Rattle.delta.specs.declared.admit.Admitted.the-variants.{Yes}
-use Rattle.delta.specs.declared.sink.Counts.{Counts}
+use Rattle.item.specs.declared.sink.Counts.{Counts}
 use Rattle.delta.specs.Refusal.{numberOf, argumentOf, offsetOf}
 use Rattle.delta.specs.Answer.{countsOf, outAfter}
 use Rattle.listing.specs.declared.report.Report.{Report}

@@ -7,7 +7,7 @@ use Rattle.serial.specs.declared.Serial.{Serial}
 use Rattle.field.specs.Cells.{Cell, cells}
 use Rattle.payload.specs.Content.{Bytes}
 use Rattle.payload.specs.Count.{isWithdrawn}
-use Rattle.delta.specs.declared.sink.Counts.{Counts}
+use Rattle.item.specs.declared.sink.Counts.{Counts}
 use Rattle.delta.specs.Answer.{countsOf}
 use Rattle.listing.specs.Text.{ascii, hexDigit, decimal}
 

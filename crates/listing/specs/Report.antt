@@ -8,7 +8,7 @@ use lib.ListN.{length, take}
 use Rattle.payload.specs.Content.{Bytes}
 use Rattle.delta.specs.declared.refusal.Refusal.{Refusal}
 use Rattle.delta.specs.declared.refusal.Refusal.the-variants as refusal
-use Rattle.delta.specs.declared.sink.Counts.{Counts}
+use Rattle.item.specs.declared.sink.Counts.{Counts}
 use Rattle.delta.specs.Refusal.{numberOf, argumentOf, offsetOf}
 use Rattle.delta.specs.Answer.{countsOf}
 use Rattle.listing.specs.declared.report.Report.{Report}

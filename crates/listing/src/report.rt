@@ -5,7 +5,7 @@ use crate::text::put_named;
 use crate::text::put_text;
 use crate::text::put_three;
 use delta::refusal::Refusal;
-use delta::sink::Counts;
+use item::sink::Counts;
 use serial::Serial;
 ghost use mathlib.Core.Path.{_≡_};
 ghost use lib.ListN.{length, take};

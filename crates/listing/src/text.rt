@@ -1,6 +1,6 @@
 // Text into a lent slice: what has no room is counted and not written. Each function gives the place behind its text.
-use delta::place::Part;
-use delta::sink::copy;
+use item::copy::copy;
+use item::place::Part;
 ghost use Prim.Native.Nat.{_+_, _^_, _<_, _≤_};
 ghost use lib.ListN.{length};
 ghost use Rattle.listing.specs.Text.{decimal};

@@ -15,7 +15,7 @@ use Rattle.payload.specs.Content.{Bytes}
 use Rattle.delta.specs.declared.refusal.Refusal.{Refusal}
 use Rattle.delta.specs.declared.refusal.Refusal.the-variants.{NoRoom, OtherSession, NotServed, IllFormed}
 use Rattle.delta.specs.declared.admit.Admitted.{Admitted}
-use Rattle.delta.specs.declared.sink.Counts.{Counts}
+use Rattle.item.specs.declared.sink.Counts.{Counts}
 use Rattle.delta.specs.Admission.{andThen}
 use Rattle.delta.specs.Answer.{countsOf, outAfter}
 use Rattle.past.specs.declared.state.History.{History}

@@ -32,7 +32,7 @@ use Rattle.delta.specs.declared.refusal.Refusal.{Refusal}
 use Rattle.delta.specs.declared.refusal.Refusal.the-variants.{OtherSession, NotServed, IllFormed, BadKeep, TooLong}
 use Rattle.delta.specs.declared.admit.Admitted.{Admitted}
 use Rattle.delta.specs.declared.admit.Admitted.the-variants.{Yes, No}
-use Rattle.delta.specs.declared.sink.Counts.{Counts}
+use Rattle.item.specs.declared.sink.Counts.{Counts}
 use Rattle.delta.specs.Admission.{andThen}
 use Rattle.delta.specs.Answer.{differenceOf, countsOf}
 use Rattle.past.specs.declared.create.Creation.the-variants.{Done, Refused}

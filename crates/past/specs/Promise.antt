@@ -16,9 +16,9 @@ use Rattle.field.specs.Run.{AllBytes}
 use Rattle.payload.specs.Content.{Bytes}
 use Rattle.payload.specs.Payload.{items, changes}
 use Rattle.delta.specs.declared.refusal.Refusal.the-variants.{OtherSession, NotServed, IllFormed}
-use Rattle.delta.specs.declared.fit.Fit.the-variants.{All}
-use Rattle.delta.specs.declared.sink.Counts.{Counts}
-use Rattle.delta.specs.Fit.{fitOf}
+use Rattle.walk.specs.declared.fit.Fit.the-variants.{All}
+use Rattle.item.specs.declared.sink.Counts.{Counts}
+use Rattle.walk.specs.Fit.{fitOf}
 use Rattle.delta.specs.Answer.{differenceOf, appliedOf, countsOf}
 use Rattle.past.specs.declared.update.Update.the-variants.{Unchanged}
 use Rattle.past.specs.declared.query.Answer.the-variants.{Refused, Served}

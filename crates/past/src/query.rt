@@ -1,6 +1,6 @@
 // The answer of a query.
 use delta::refusal::Refusal;
-use delta::sink::Counts;
+use item::sink::Counts;
 use serial::Serial;
 use serial::Session;
 

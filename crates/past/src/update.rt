@@ -1,7 +1,7 @@
 // The answer of an update.
 use crate::state::History;
 use delta::refusal::Refusal;
-use delta::sink::Counts;
+use item::sink::Counts;
 
 pub enum Update {
     // The first snapshot is current; the serial stays 0.

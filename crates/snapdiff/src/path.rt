@@ -1,6 +1,6 @@
 // The path of a file in a folder.
-use delta::place::Part;
-use delta::sink::copy;
+use item::copy::copy;
+use item::place::Part;
 ghost use Rattle.io.specs.Counts.{Counts};
 
 // The name behind the folder, which is the first n bytes of path; nothing where there is no folder, or no room.

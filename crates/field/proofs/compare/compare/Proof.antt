@@ -1,48 +1,69 @@
 use borrow.Author.Needs.{needs}
-use Rattle.field.proofs.Comparing.{Compared, comparing}
+use Rattle.field.proofs.Eights.{Worded, words}
 use Prim.Native.Nat.{_-_, _+_}
 use lib.ListN.{length}
 use Rattle.field.proofs.compare.compare.Statement.{statement}
 use Rattle.field.proofs.compare.compare.Tie as tie
 
 abbrev Inv-loop : tie.InvT-loop
-Inv-loop a b i₀ i = Compared a b i
+Inv-loop a b n i₀ i = Worded a b n i
 
 abbrev μ-loop : tie.MeasureT-loop
-μ-loop a b i₀ i = length a - i
+μ-loop a b n i₀ i = n - i
+
+lower-requires : tie.Need-lower-requires Inv-loop μ-loop
+lower-requires c κs = search (words, needs)
 
 loop-holds : tie.Need-loop-holds Inv-loop μ-loop
-loop-holds c = search (comparing, needs)
+loop-holds c = search (words, needs)
+
+sub-loop : tie.Need-sub-loop Inv-loop μ-loop
+sub-loop c = search (words, needs)
+
+word-at-requires : tie.Need-word-at-requires Inv-loop μ-loop
+word-at-requires c κs = search (words, needs)
+
+word-at-requires-2 : tie.Need-word-at-requires-2 Inv-loop μ-loop
+word-at-requires-2 c κs = search (words, needs)
 
 returns : tie.Need-returns Inv-loop μ-loop
-returns c = search (comparing, needs)
-
-shared-slice-read-x : tie.Need-shared-slice-read-x Inv-loop μ-loop
-shared-slice-read-x c = search (comparing, needs)
-
-shared-slice-read-y : tie.Need-shared-slice-read-y Inv-loop μ-loop
-shared-slice-read-y c = search (comparing, needs)
+returns c = search (words, needs)
 
 returns-2 : tie.Need-returns-2 Inv-loop μ-loop
-returns-2 c = search (comparing, needs)
-
-returns-3 : tie.Need-returns-3 Inv-loop μ-loop
-returns-3 c = search (comparing, needs)
+returns-2 c = search (words, needs)
 
 add-i : tie.Need-add-i Inv-loop μ-loop
-add-i c = search (comparing, needs)
+add-i c = search (words, needs)
 
 loop-less : tie.Need-loop-less Inv-loop μ-loop
-loop-less c = search (comparing, needs)
+loop-less c = search (words, needs)
 
 loop-again : tie.Need-loop-again Inv-loop μ-loop
-loop-again c = search (comparing, needs)
+loop-again c = search (words, needs)
 
-returns-4 : tie.Need-returns-4 Inv-loop μ-loop
-returns-4 c = search (comparing, needs)
+sub-compare-bytes : tie.Need-sub-compare-bytes Inv-loop μ-loop
+sub-compare-bytes c = search (words, needs)
 
-returns-5 : tie.Need-returns-5 Inv-loop μ-loop
-returns-5 c = search (comparing, needs)
+part-compare-bytes-start : tie.Need-part-compare-bytes-start Inv-loop μ-loop
+part-compare-bytes-start c = search (words, needs)
+
+part-compare-bytes-end : tie.Need-part-compare-bytes-end Inv-loop μ-loop
+part-compare-bytes-end c = search (words, needs)
+
+sub-compare-bytes-2 : tie.Need-sub-compare-bytes-2 Inv-loop μ-loop
+sub-compare-bytes-2 c = search (words, needs)
+
+part-compare-bytes-start-2 : tie.Need-part-compare-bytes-start-2 Inv-loop μ-loop
+part-compare-bytes-start-2 c = search (words, needs)
+
+part-compare-bytes-end-2 : tie.Need-part-compare-bytes-end-2 Inv-loop μ-loop
+part-compare-bytes-end-2 c = search (words, needs)
+
+compare-bytes-requires : tie.Need-compare-bytes-requires Inv-loop μ-loop
+compare-bytes-requires c κs = search (words, needs)
+
+returns-3 : tie.Need-returns-3 Inv-loop μ-loop
+returns-3 c = search (words, needs)
 
 pub compare-spec : {M : Type 1} → statement M
 compare-spec =
@@ -50,14 +71,21 @@ compare-spec =
     (tie.spec
     Inv-loop
     μ-loop
+    lower-requires
     loop-holds
+    sub-loop
+    word-at-requires
+    word-at-requires-2
     returns
-    shared-slice-read-x
-    shared-slice-read-y
     returns-2
-    returns-3
     add-i
     loop-less
     loop-again
-    returns-4
-    returns-5)
+    sub-compare-bytes
+    part-compare-bytes-start
+    part-compare-bytes-end
+    sub-compare-bytes-2
+    part-compare-bytes-start-2
+    part-compare-bytes-end-2
+    compare-bytes-requires
+    returns-3)

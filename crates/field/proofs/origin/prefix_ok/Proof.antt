@@ -21,15 +21,6 @@ returns c = search (origins, needs)
 returns-2 : tie.Need-returns-2
 returns-2 c = search (origins, needs)
 
-sub-clean-address : tie.Need-sub-clean-address
-sub-clean-address c = search (origins, needs)
-
-part-clean-address-start : tie.Need-part-clean-address-start
-part-clean-address-start c = search (origins, needs)
-
-part-clean-address-end : tie.Need-part-clean-address-end
-part-clean-address-end c = search (origins, needs)
-
 clean-address-requires : tie.Need-clean-address-requires
 clean-address-requires c κs = search (origins, needs)
 
@@ -46,8 +37,5 @@ prefix-ok-spec =
     wide-requires-2
     returns
     returns-2
-    sub-clean-address
-    part-clean-address-start
-    part-clean-address-end
     clean-address-requires
     returns-3)

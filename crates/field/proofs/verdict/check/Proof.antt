@@ -1,5 +1,6 @@
 use borrow.Author.Needs.{needs}
 use Rattle.field.proofs.Judging.{Judged, judging}
+use Rattle.field.proofs.Passing.{further}
 use Prim.Native.Nat.{_-_, _+_}
 use lib.ListN.{length}
 use Rattle.field.proofs.verdict.check.Statement.{statement}
@@ -12,70 +13,73 @@ abbrev μ-loop : tie.MeasureT-loop
 μ-loop form s at₀ before₀ at before = length s - at
 
 loop-holds : tie.Need-loop-holds Inv-loop μ-loop
-loop-holds c = search (judging, needs)
+loop-holds c = search (judging, further, needs)
 
 field-at-requires : tie.Need-field-at-requires Inv-loop μ-loop
-field-at-requires c κs = search (judging, needs)
+field-at-requires c κs = search (judging, further, needs)
 
 enum-told : tie.Need-enum-told Inv-loop μ-loop
-enum-told c = search (judging, needs)
+enum-told c = search (judging, further, needs)
 
 returns : tie.Need-returns Inv-loop μ-loop
-returns c = search (judging, needs)
+returns c = search (judging, further, needs)
 
 enum-told-2 : tie.Need-enum-told-2 Inv-loop μ-loop
-enum-told-2 c = search (judging, needs)
+enum-told-2 c = search (judging, further, needs)
 
 returns-2 : tie.Need-returns-2 Inv-loop μ-loop
-returns-2 c = search (judging, needs)
+returns-2 c = search (judging, further, needs)
 
 enum-known-tag : tie.Need-enum-known-tag Inv-loop μ-loop
-enum-known-tag c = search (judging, needs)
+enum-known-tag c = search (judging, further, needs)
 
 sub-body-ok : tie.Need-sub-body-ok Inv-loop μ-loop
-sub-body-ok c = search (judging, needs)
+sub-body-ok c = search (judging, further, needs)
 
 part-body-ok-start : tie.Need-part-body-ok-start Inv-loop μ-loop
-part-body-ok-start c = search (judging, needs)
+part-body-ok-start c = search (judging, further, needs)
 
 part-body-ok-end : tie.Need-part-body-ok-end Inv-loop μ-loop
-part-body-ok-end c = search (judging, needs)
+part-body-ok-end c = search (judging, further, needs)
 
 body-ok-requires : tie.Need-body-ok-requires Inv-loop μ-loop
-body-ok-requires c κs = search (judging, needs)
+body-ok-requires c κs = search (judging, further, needs)
 
 returns-3 : tie.Need-returns-3 Inv-loop μ-loop
-returns-3 c = search (judging, needs)
+returns-3 c = search (judging, further, needs)
 
 kind-of-requires : tie.Need-kind-of-requires Inv-loop μ-loop
-kind-of-requires c κs = search (judging, needs)
+kind-of-requires c κs = search (judging, further, needs)
 
 key-at-requires : tie.Need-key-at-requires Inv-loop μ-loop
-key-at-requires c κs = search (judging, needs)
+key-at-requires c κs = search (judging, further, needs)
 
 key-compare-requires : tie.Need-key-compare-requires Inv-loop μ-loop
-key-compare-requires c κs = search (judging, needs)
+key-compare-requires c κs = search (judging, further, needs)
 
 enum-told-3 : tie.Need-enum-told-3 Inv-loop μ-loop
-enum-told-3 c = search (judging, needs)
+enum-told-3 c = search (judging, further, needs)
+
+pass-requires : tie.Need-pass-requires Inv-loop μ-loop
+pass-requires c κs = search (judging, further, needs)
 
 loop-less : tie.Need-loop-less Inv-loop μ-loop
-loop-less c = search (judging, needs)
+loop-less c = search (judging, further, needs)
 
 loop-again : tie.Need-loop-again Inv-loop μ-loop
-loop-again c = search (judging, needs)
+loop-again c = search (judging, further, needs)
 
 enum-told-4 : tie.Need-enum-told-4 Inv-loop μ-loop
-enum-told-4 c = search (judging, needs)
+enum-told-4 c = search (judging, further, needs)
 
 returns-4 : tie.Need-returns-4 Inv-loop μ-loop
-returns-4 c = search (judging, needs)
+returns-4 c = search (judging, further, needs)
 
 enum-told-5 : tie.Need-enum-told-5 Inv-loop μ-loop
-enum-told-5 c = search (judging, needs)
+enum-told-5 c = search (judging, further, needs)
 
 returns-5 : tie.Need-returns-5 Inv-loop μ-loop
-returns-5 c = search (judging, needs)
+returns-5 c = search (judging, further, needs)
 
 pub check-spec : {M : Type 1} → statement M
 check-spec =
@@ -99,6 +103,7 @@ check-spec =
     key-at-requires
     key-compare-requires
     enum-told-3
+    pass-requires
     loop-less
     loop-again
     enum-told-4

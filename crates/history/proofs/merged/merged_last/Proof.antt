@@ -6,6 +6,12 @@ use Rattle.history.proofs.merged.merged_last.Tie as tie
 place-all-requires : tie.Need-place-all-requires
 place-all-requires c κs = search (lasting, needs)
 
+sub-sum-lengths : tie.Need-sub-sum-lengths
+sub-sum-lengths c = search (lasting, needs)
+
+sum-lengths-requires : tie.Need-sum-lengths-requires
+sum-lengths-requires c κs = search (lasting, needs)
+
 sub-put-whole : tie.Need-sub-put-whole
 sub-put-whole c = search (lasting, needs)
 
@@ -20,4 +26,12 @@ returns c = search (lasting, needs)
 
 pub merged-last-spec : {M : Type 1} → statement M
 merged-last-spec =
-    tie.close (tie.spec place-all-requires sub-put-whole put-whole-requires same-length returns)
+    tie.close
+    (tie.spec
+    place-all-requires
+    sub-sum-lengths
+    sum-lengths-requires
+    sub-put-whole
+    put-whole-requires
+    same-length
+    returns)

@@ -1,15 +1,18 @@
 use borrow.Author.Needs.{needs}
-use Rattle.history.proofs.Putting.{Putting, measure, putting}
+use Rattle.history.proofs.Putting.{Putting, measure, putting, put-key, put-act, put-room}
 use Prim.Native.Nat.{_-_, _+_}
 use lib.ListN.{length}
 use Rattle.history.proofs.merged.put_all.Statement.{statement}
 use Rattle.history.proofs.merged.put_all.Tie as tie
 
 abbrev Inv-loop : tie.InvT-loop
-Inv-loop store at₀ ends from n out₀ counts₀ at out counts = Putting store at₀ ends from n out₀ at out counts
+Inv-loop store at₀ ends from n out₀ counts₀ f₀ at out counts f = Putting store at₀ ends f₀ from n out₀ at f out counts
 
 abbrev μ-loop : tie.MeasureT-loop
-μ-loop store at₀ ends from n out₀ counts₀ at out counts = measure store at ends from n
+μ-loop store at₀ ends from n out₀ counts₀ f₀ at out counts f = measure store at ends from n
+
+line-up-requires : tie.Need-line-up-requires Inv-loop μ-loop
+line-up-requires c κs = search (putting, needs)
 
 loop-holds : tie.Need-loop-holds Inv-loop μ-loop
 loop-holds c = search (putting, needs)
@@ -30,7 +33,7 @@ returns : tie.Need-returns Inv-loop μ-loop
 returns c = search (putting, needs)
 
 put-item-requires : tie.Need-put-item-requires Inv-loop μ-loop
-put-item-requires c κs = search (putting, needs)
+put-item-requires c κs = (search (put-key, needs), (search (put-act, needs), search (put-room, needs)))
 
 loop-less : tie.Need-loop-less Inv-loop μ-loop
 loop-less c = search (putting, needs)
@@ -44,6 +47,7 @@ put-all-spec =
     (tie.spec
     Inv-loop
     μ-loop
+    line-up-requires
     loop-holds
     next-requires
     enum-known-key

@@ -1,0 +1,136 @@
+-- The front of a run: the first eight bytes of its first key as one number; and 64 fronts with the lowest of each eight.
+use Prim.Native.Nat.{ℕ, zero, suc, _+_, _*_, _≤_, _<_}
+use mathlib.Core.Path.{_≡_}
+use mathlib.Core.List.{List, [], _∷_}
+use mathlib.Core.Bool.{Bool, true}
+use lib.ListN.{length, getD, set, drop}
+use Rattle.order.specs.Comparison.{bytes}
+use Rattle.order.specs.Many.{first, past}
+use Rattle.change.specs.Merge.{mergeAt}
+use Rattle.field.specs.declared.key.Key.{Key}
+use Rattle.field.specs.Places.{keyIn}
+use Rattle.field.specs.Run.{AllBytes}
+use Rattle.payload.specs.Content.{Bytes}
+use Rattle.item.specs.declared.place.Held.{Held}
+use Rattle.item.specs.Front.{frontKey, top}
+use Rattle.item.specs.Place.{heldIn, Holds, KeyIn}
+use Rattle.cursors.specs.declared.least.Found.{Found}
+use Rattle.cursors.specs.declared.least.Found.the-variants as found
+use Rattle.cursors.specs.Cursor.{D, run, Stands, Within, HeldAt, Least}
+
+-- ---- one front
+
+abbrev pub frontOf : D → ℕ
+frontOf [] = top
+frontOf (x ∷ d) = frontKey (x .key)
+
+-- the first key, if there is one, is made of bytes, and its kind is low
+abbrev pub HeadBytes : D → Type 0
+HeadBytes [] = Unit {0}
+HeadBytes (x ∷ d) = AllBytes (x .key) × (frontKey (x .key) < top)
+
+-- v is the front of the run from p up to e
+pub record Fronts (s : Bytes) (p e v : ℕ) : Type 0 where
+  pub is : v ≡ frontOf (run s p e)
+  pub octets : HeadBytes (run s p e)
+
+-- ---- many: 64 of them, then the lowest of each eight
+
+pub data Sits (f : List ℕ) (a b m : ℕ) : Type 0 where
+  nowhere : m ≡ top → Sits f a b m
+  on : (j : ℕ) → a ≤ j → j < b → getD f j 0 ≡ m → Sits f a b m
+
+-- m is the lowest from a up to b
+pub record Lowest (f : List ℕ) (a b m : ℕ) : Type 0 where
+  pub under : (j : ℕ) → a ≤ j → j < b → m ≤ getD f j 0
+  pub sits : Sits f a b m
+
+pub record Blocks (f : List ℕ) : Type 0 where
+  pub long : length f ≡ 72
+  pub lows : (b : ℕ) → b < 8 → Lowest f (8 * b) (8 * b + 8) (getD f (64 + b) 0)
+
+-- r is the first place from `from` on with this front; or there is none below n
+pub record Finds (f : List ℕ) (low from n r : ℕ) : Type 0 where
+  pub other : (j : ℕ) → from ≤ j → j < r → j < n → getD f j 0 ≡ low → ⊥
+  pub found : r < n → getD f r 0 ≡ low
+  pub ahead : from ≤ r
+
+-- the front at r is v now
+pub record Settled (f₀ f : List ℕ) (r v : ℕ) : Type 0 where
+  pub blocks : Blocks f
+  pub same-long : length f ≡ length f₀
+  pub here : getD f r 0 ≡ v
+  pub others : (j : ℕ) → j < 64 → (j ≡ r → ⊥) → getD f j 0 ≡ getD f₀ j 0
+
+-- the fronts of the runs from `from` up to n; all others are above each front
+pub record Lined (s : Bytes) (at ends : List ℕ) (from n : ℕ) (f : List ℕ) : Type 0 where
+  pub blocks : Blocks f
+  pub each : (r : ℕ) → from ≤ r → r < n → Fronts s (getD at r 0) (getD ends r 0) (getD f r 0)
+  pub before : (r : ℕ) → r < from → r < 64 → getD f r 0 ≡ top
+  pub behind : (r : ℕ) → n ≤ r → r < 64 → getD f r 0 ≡ top
+
+-- the same, closed: a search does not look into it
+pub data Fronted (s : Bytes) (at ends : List ℕ) (from n : ℕ) (f : List ℕ) : Type 0 where
+  lined : Lined s at ends from n f → Fronted s at ends from n f
+
+abbrev pub line : {s : Bytes} {at ends : List ℕ} {from n : ℕ} {f : List ℕ} → Fronted s at ends from n f → Lined s at ends from n f
+line (lined l) = l
+
+-- ---- the least key, by its front
+
+abbrev pub FoundLow : Bytes → ℕ → Found → Type 0
+FoundLow s low found.Nothing = Unit {0}
+FoundLow s low (found.At k) = frontKey (keyIn s k) ≡ low
+
+-- what the search for the least key may assume
+pub record Looks (s : Bytes) (at ends : List ℕ) (from n : ℕ) (f : List ℕ) (low : ℕ) : Type 0 where
+  pub within : Within s at ends n
+  pub fronted : Fronted s at ends from n f
+  pub lowest : Lowest f 64 72 low
+
+pub record LeastBy (s : Bytes) (at ends : List ℕ) (from n : ℕ) (low : ℕ) (r : Found) : Type 0 where
+  pub least : Least s at ends from n r
+  pub front : FoundLow s low r
+
+-- what the gathering at a key k may assume
+pub record Meets (s : Bytes) (at ends : List ℕ) (from n : ℕ) (f : List ℕ) (low : ℕ) (k : Key) : Type 0 where
+  pub key : KeyIn s k
+  pub within : Within s at ends n
+  pub fronted : Fronted s at ends from n f
+  pub front : low ≡ frontKey (keyIn s k)
+
+-- a key that is another's place is that key
+pub record OnePlace (k key : Key) (r : Bool) : Type 0 where
+  pub same : r ≡ true → k ≡ key
+
+-- a run goes on at a place of it
+pub record Advances (s : Bytes) (at ends f : List ℕ) (p next : ℕ) : Type 0 where
+  pub long : length at ≡ 64
+  pub long-ends : length ends ≡ 64
+  pub blocks : Blocks f
+  pub small : p < 64
+  pub stands : Stands s next (getD ends p 0)
+
+pub record Advanced (s : Bytes) (ends f₀ f : List ℕ) (p next : ℕ) : Type 0 where
+  pub front : ℕ
+  pub is : Fronts s next (getD ends p 0) front
+  pub settled : Settled f₀ f p front
+
+-- what one run says of a key is taken
+pub record Takes (s : Bytes) (at ends f : List ℕ) (p : ℕ) (k : Key) (held : Held) : Type 0 where
+  pub key : KeyIn s k
+  pub long : length at ≡ 64
+  pub long-ends : length ends ≡ 64
+  pub blocks : Blocks f
+  pub small : p < 64
+  pub stands : Stands s (getD at p 0) (getD ends p 0)
+  pub front : Fronts s (getD at p 0) (getD ends p 0) (getD f p 0)
+  pub inside : HeldAt s held
+
+pub record Taken (s : Bytes) (at₀ at ends f₀ f : List ℕ) (p : ℕ) (k : Key) (held r : Held) : Type 0 where
+  pub place : ℕ
+  pub moved : at ≡ set at₀ p place
+  pub stands : Stands s place (getD ends p 0)
+  pub gone : run s place (getD ends p 0) ≡ past bytes (keyIn s k) (run s (getD at₀ p 0) (getD ends p 0))
+  pub fronts : Advanced s ends f₀ f p place
+  pub holds : Holds s s (mergeAt bytes (heldIn s s held) (first bytes (keyIn s k) (run s (getD at₀ p 0) (getD ends p 0)))) r

@@ -1,0 +1,8 @@
+// The walk over many deltas at once: a cursor for each, the lowest key first.
+pub mod cursor;
+pub mod front;
+pub mod fronts;
+pub mod gather;
+pub mod least;
+pub mod lows;
+pub mod next;

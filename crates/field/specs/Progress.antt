@@ -1,0 +1,44 @@
+-- How far a check has come.
+use Prim.Native.Nat.{ℕ, _+_, _-_, _<_, _≤_}
+use mathlib.Core.Path.{_≡_}
+use mathlib.Core.List.{List}
+use mathlib.Core.Bool.{Bool, true}
+use lib.ListN.{length, drop}
+use Rattle.field.specs.declared.key.Key.{Key}
+use Rattle.field.specs.declared.tag.Form.{Form}
+use Rattle.field.specs.declared.head.Field.the-variants.{Whole}
+use Rattle.field.specs.declared.verdict.Stand.{Stand}
+use Rattle.field.specs.Tag.{kindOf, goodBody}
+use Rattle.field.specs.Places.{part, fieldAt, keyIn, keyPlace}
+use Rattle.field.specs.Verdict.{verdictF, verdict}
+
+-- what the check has found at `at`, behind the key k: the rest decides
+pub record Judged (form : Form) (s : List ℕ) (at : ℕ) (k : Key) : Type 0 where
+  pub fuel : ℕ
+  pub enough : length s - at < fuel
+  pub within : at ≤ length s
+  pub rest : verdictF form fuel at (keyIn s k) (drop at s) ≡ verdict form s
+
+-- behind a field of this kind, with the body from `from` up to `to`
+abbrev pub standBehind : ℕ → ℕ → ℕ → Stand
+standBehind kind from to = record { at = to; before = keyPlace kind from to }
+
+-- a yes is right, a no decides nothing
+pub record If (r : Bool) (P : Type 0) : Type 0 where
+  pub holds : r ≡ true → P
+
+-- at `at` stands a good field of this kind, which ends at `to`
+pub record GoodField (form : Form) (kind : ℕ) (s : List ℕ) (at to : ℕ) : Type 0 where
+  pub tag : ℕ
+  pub reads : Whole tag (at + 3) to ≡ fieldAt s at
+  pub kinds : kind ≡ kindOf form tag
+  pub good : goodBody form tag (part s (at + 3) to) ≡ true
+
+-- so it is, if `to` is past `at`
+pub record Reaches (form : Form) (kind : ℕ) (s : List ℕ) (at to : ℕ) : Type 0 where
+  pub holds : at < to → GoodField form kind s at to
+
+-- the check has come further
+pub record Further (form : Form) (s : List ℕ) (from : ℕ) (r : Stand) : Type 0 where
+  pub on : from ≤ r .at
+  pub judged : Judged form s (r .at) (r .before)

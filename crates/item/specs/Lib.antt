@@ -1,0 +1,5 @@
+pub mod Place
+pub mod Front
+pub mod Reading
+pub mod Copy
+pub mod Write

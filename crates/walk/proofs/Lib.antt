@@ -1,0 +1,8 @@
+pub mod Turning
+pub mod Walking
+pub mod Skipping
+pub mod Seeking
+pub mod Lengths
+pub mod Originals
+pub mod Passing
+pub mod Fitting
