@@ -1,0 +1,63 @@
+-- Answers are as short as they can be, whatever way merges are grouped, and what is held afterwards.
+use Prim.Native.Nat.{ℕ, _+_, _≤_}
+use mathlib.Core.Path.{_≡_}
+use mathlib.Core.List.{List}
+use lib.Dec.{eqb}
+use lib.ListN.{length}
+use Rattle.order.specs.Map as order
+use Rattle.change.specs.History.{newest}
+use Rattle.change.specs.Short.{Part}
+use Rattle.change.specs.Grouping.{Grouping, leaves, mergeTree, steps}
+use Rattle.field.specs.declared.tag.Form.the-variants.{Snapshot, Delta}
+use Rattle.field.specs.declared.verdict.Verdict.the-variants.{Fine}
+use Rattle.field.specs.Verdict.{verdict}
+use Rattle.field.specs.Cells.{cells}
+use Rattle.field.specs.Run.{AllBytes}
+use Rattle.payload.specs.Content.{Bytes}
+use Rattle.payload.specs.Count.{countTags}
+use Rattle.walk.specs.declared.fit.Fit.the-variants.{All}
+use Rattle.walk.specs.Fit.{fitOf}
+use Rattle.delta.specs.Answer.{differenceOf, mergedOf, appliedOf}
+
+-- a good snapshot
+pub record GoodSnapshot (s : Bytes) : Type 0 where
+  pub octets : AllBytes s
+  pub fine : verdict Snapshot s ≡ Fine
+
+-- a good delta that can be applied to A and yields C
+pub record LeadsTo (A C D : Bytes) : Type 0 where
+  pub fine : verdict Delta D ≡ Fine
+  pub fits : fitOf A D ≡ All
+  pub yields : appliedOf A D ≡ C
+
+-- an answer beside another delta D
+pub record NoLonger (answer D : Bytes) : Type 0 where
+  -- every field of the answer is a field of D, in the same order
+  pub within : Part (cells answer) (cells D)
+  -- so D has no fewer items
+  pub items : length (cells answer) ≤ length (cells D)
+  -- nor fewer bytes
+  pub bytes : length answer ≤ length D
+  -- and where D has no more items it is the answer
+  pub only : length (cells D) ≤ length (cells answer) → D ≡ answer
+
+-- how many fields have this tag
+abbrev pub tagged : ℕ → Bytes → ℕ
+tagged tag s = countTags (eqb tag) (cells s)
+
+-- D applied to A yields C: those in C with those that D withdraws are as many as those in A with those that D announces
+pub record Balance (A D C : Bytes) : Type 0 where
+  pub origins : tagged 0x01 C + tagged 0x12 D ≡ tagged 0x01 A + tagged 0x11 D
+  pub router-keys : tagged 0x02 C + tagged 0x22 D ≡ tagged 0x02 A + tagged 0x21 D
+  -- of ASPAs, each with its customer: an update (tag 0x33), which is among the announced of an answer's counts, is on neither side
+  pub customers : tagged 0x03 C + tagged 0x32 D ≡ tagged 0x03 A + tagged 0x31 D
+
+pub record Shortest : Type 0 where
+  -- the difference leads from A to C, and no good delta that does has fewer items or bytes
+  pub leads : (A C : Bytes) → GoodSnapshot A → GoodSnapshot C → LeadsTo A C (differenceOf A C)
+  pub shortest : (A C D : Bytes) → GoodSnapshot A → GoodSnapshot C → AllBytes D → LeadsTo A C D → NoLonger (differenceOf A C) D
+  -- of the chain of snapshots S, then Ts: every way of grouping the merges of its differences gives the difference of its ends
+  pub grouping : (g : Grouping Bytes) (S : Bytes) (Ts : List Bytes) → GoodSnapshot S → order.All GoodSnapshot Ts → leaves g ≡ steps differenceOf S Ts →
+      mergeTree mergedOf g ≡ differenceOf S (newest S Ts)
+  -- the counts before and after
+  pub balance : (A C D : Bytes) → GoodSnapshot A → LeadsTo A C D → Balance A D C
