@@ -5,3 +5,4 @@ pub mod Demand
 pub mod Leading
 pub mod Balance
 pub mod Shortest
+pub mod Examples

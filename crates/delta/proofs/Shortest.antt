@@ -2,8 +2,10 @@
 use Prim.Native.Nat.{ℕ, _+_, _≤_}
 use mathlib.Core.Path.{_≡_, refl, sym, ap, _∙_}
 use mathlib.Core.List.{List, [], _∷_, map}
+use mathlib.Core.Option.{some}
 use native.Mathlib.Omega.{arith}
-use lib.ListN.{length, length-append}
+use lib.ListN.{length, drop, length-append}
+use lib.Seq.{take-append-seam}
 use Rattle.order.specs.Comparison.{bytes}
 use Rattle.order.proofs.Comparison.{strings}
 use Rattle.change.specs.Difference.{diff}
@@ -12,6 +14,7 @@ use Rattle.change.proofs.Short.{total, part-total, part-length, part-whole, par
 use Rattle.change.proofs.Short as short
 use Rattle.change.proofs.Whole.{compose}
 use Rattle.change.proofs.Grouping.{tree-ends}
+use Rattle.serial.specs.declared.Serial.{Serial}
 use Rattle.field.specs.declared.tag.Form.{Form}
 use Rattle.field.specs.declared.tag.Form.the-variants.{Snapshot, Delta}
 use Rattle.field.specs.declared.verdict.Verdict.the-variants.{Fine}
@@ -22,12 +25,26 @@ use Rattle.field.specs.Run.{AllBytes}
 use Rattle.field.proofs.Encode.{cells-encode}
 use Rattle.payload.specs.Content.{Bytes, cellFor}
 use Rattle.payload.specs.Payload.{entries, encode, items, changes}
+use Rattle.payload.specs.Limit.{limit}
 use Rattle.payload.proofs.Faithful.{faithful}
-use Rattle.delta.specs.Answer.{differenceOf, mergedOf}
-use Rattle.delta.specs.Shortest.{GoodSnapshot, LeadsTo, NoLonger, Shortest}
+use Rattle.walk.specs.declared.fit.Fit.{Fit}
+use Rattle.walk.specs.declared.fit.Fit.the-variants.{All, Misfit}
+use Rattle.walk.specs.Fit.{fitOf}
+use Rattle.delta.specs.declared.admit.Admitted.{Admitted}
+use Rattle.delta.specs.declared.admit.Admitted.the-variants.{Yes, No}
+use Rattle.delta.specs.declared.apply.Applied.the-variants as applied
+use Rattle.delta.specs.Admission.{andThen, admitOf}
+use Rattle.delta.specs.Answer.{differenceOf, mergedOf, appliedOf, fitRefusal, applyAdmitted, applyAnswer, applyOf}
+use Rattle.delta.specs.Shortest.{GoodSnapshot, Acceptable, LeadsTo, NoLonger, mergeInto, Shortest}
+use Rattle.delta.proofs.Answering.{admitted-inputs}
 use Rattle.delta.proofs.Differences.{good-map, difference-fine, difference-says, difference-fits, difference-yields}
+use Rattle.delta.proofs.Demand.{Input, difference-short, merges, merge-writes}
 use Rattle.delta.proofs.Leading.{good-of, leads-map}
 use Rattle.delta.proofs.Balance.{balanced}
+
+-- two answers that differ: from them anything follows
+never : {X : Type 0} → _≡_ {A = ℕ} 0 1 → X
+never z = absurd (omega arith)
 
 -- the fields of good bytes are those of what they say
 pub cells-of : (form : Form) (s : Bytes) → AllBytes s → verdict form s ≡ Fine → cells s ≡ map (cellFor form) (entries form s)
@@ -82,8 +99,41 @@ composes A B C a b c =
     rw (difference-says A B (good-of A a) (good-of B b), difference-says B C (good-of B b) (good-of C c))
     (ap (encode Delta) (compose strings strings (items A) (items B) (items C) (good-map A (good-of A a) .sorted) (good-map B (good-of B b) .sorted) (good-map C (good-of C c) .sorted)))
 
+-- with room for any delta `merge` writes it
+enters : (out : Bytes) (serial : Serial) → limit Delta ≤ length out → (A B C : Bytes) → Acceptable A → Acceptable B → Acceptable C →
+    mergeInto out serial (some (differenceOf A B)) (some (differenceOf B C)) ≡ some (differenceOf A C)
+enters out serial h A B C a b c =
+    let l = difference-short A C (input A a) (input C c) in
+    rw (
+      merges A B C (input A a) (input B b) (input C c) serial (length out) (omega arith),
+      merge-writes A B C (input A a) (input B b) (input C c) out (omega arith),
+    ) (ap (λ (d : Bytes). some d) (take-append-seam (differenceOf A C) (drop (length (differenceOf A C)) out)))
+  where
+    input : (s : Bytes) → Acceptable s → Input s
+    input s i = record { good = good-of s (i .good); short = i .short }
+
+-- what `apply` accepts is good and fits
+both-yes : (x y : Admitted) → andThen x y ≡ Yes → (x ≡ Yes) × (y ≡ Yes)
+both-yes Yes y e = (refl, e)
+both-yes (No r) y e = never (cc)
+
+fit-yes : (f : Fit) → fitRefusal f ≡ Yes → f ≡ All
+fit-yes All e = refl
+fit-yes (Misfit at) e = never (cc)
+
+accepts : (A D : Bytes) (room n : ℕ) → applyOf A D room ≡ applied.Snapshot n → LeadsTo A (appliedOf A D) D
+unfolding applyOf
+accepts A D room n h = go (applyAdmitted A D) refl h
+  where
+    go : (x : Admitted) → applyAdmitted A D ≡ x → applyAnswer x (appliedOf A D) room ≡ applied.Snapshot n → LeadsTo A (appliedOf A D) D
+    go (No r) e h = never (cc)
+    go Yes e h =
+        let y = both-yes (admitOf Snapshot A Delta D) (fitRefusal (fitOf A D)) e in
+        record { fine = admitted-inputs Snapshot A Delta D (y .0) .fine-b; fits = fit-yes (fitOf A D) (y .1); yields = refl }
+
 pub shortest : Shortest
 shortest = record {
+  accepted = accepts;
   leads = λ A C a c. record {
     fine = difference-fine A C (good-of A a) (good-of C c);
     fits = difference-fits A C (good-of A a) (good-of C c);
@@ -91,5 +141,6 @@ shortest = record {
   };
   shortest = λ A C D a c o l. no-longer A C D a l c o;
   grouping = tree-ends differenceOf mergedOf GoodSnapshot composes;
+  merges = λ out serial g S Ts h. tree-ends (λ (A B : Bytes). some (differenceOf A B)) (mergeInto out serial) Acceptable (enters out serial h) g S Ts;
   balance = balanced;
 }
