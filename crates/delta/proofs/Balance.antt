@@ -1,13 +1,14 @@
 -- Items of each kind before and after a delta is applied, by the tags of their fields.
-use Prim.Native.Nat.{ℕ, _+_, _*_}
+use Prim.Native.Nat.{ℕ, suc, _+_, _*_}
 use mathlib.Core.Path.{_≡_, refl, sym, ap, ap₂, _∙_}
-use mathlib.Core.List.{[], _∷_, map}
+use mathlib.Core.List.{List, [], _∷_, map}
 use mathlib.Core.Bool.{Bool, true, false, cond}
 use native.Mathlib.Omega.{arith}
 use lib.Dec.{eqb}
-use lib.ListN.{getD}
+use lib.ListN.{length, getD}
 use borrow.Author.Tests.{eq-eqb, ne-eqb, eqb-true, eqb-false}
 use Rattle.order.specs.Comparison.{bytes}
+use Rattle.order.specs.Map.{All}
 use Rattle.order.proofs.Comparison.{strings}
 use Rattle.change.specs.Change.{Change, announce, withdraw, update}
 use Rattle.change.specs.Difference as change
@@ -23,7 +24,7 @@ use Rattle.field.specs.Cells.{Cell, cells}
 use Rattle.field.specs.Run.{Run, done, more}
 use Rattle.field.proofs.Run.{fine-run, cells-end, cells-more}
 use Rattle.payload.specs.Content.{Bytes, digit, entryOf, cellFor}
-use Rattle.payload.specs.Count.{countTags}
+use Rattle.payload.specs.Count.{isAnnounced, isWithdrawn, countTags}
 use Rattle.payload.specs.Payload.{entries, items, changes}
 use Rattle.payload.proofs.Faithful.{faithful, entries-end, entries-more}
 use Rattle.payload.proofs.Known as known
@@ -90,6 +91,59 @@ taken-tags : (k : ℕ) (D : change.Delta Bytes Bytes) → countTags (eqb (k * 16
 taken-tags k [] = refl
 taken-tags k (x ∷ D) = ap₂ (λ (t : Bool) (n : ℕ). cond t 1 0 + n) (tag-takes k (getD (x .key) 0 0) (x .val)) (taken-tags k D)
 
+-- ---- all kinds together
+
+known-run : (form : Form) {k s : Bytes} → Run form k s → All (λ (c : Cell). Known form (c .tag)) (cells s)
+known-run form done = rw cells-end tt
+known-run form (more {s = s} tag b rest f g l r) = rw (cells-more s tag b rest f) (known.known form tag b g, known-run form r)
+
+-- the fields of a snapshot are of three tags
+item-tags : (cs : List Cell) → All (λ (c : Cell). Known Snapshot (c .tag)) cs →
+    length cs ≡ countTags (eqb 0x01) cs + countTags (eqb 0x02) cs + countTags (eqb 0x03) cs
+item-tags [] h = refl
+item-tags (c ∷ cs) h = go (c .tag) (h .0) (item-tags cs (h .1))
+  where
+    go : (t : ℕ) → Known Snapshot t → length cs ≡ countTags (eqb 0x01) cs + countTags (eqb 0x02) cs + countTags (eqb 0x03) cs →
+        suc (length cs) ≡ (cond (eqb 0x01 t) 1 0 + countTags (eqb 0x01) cs) + (cond (eqb 0x02 t) 1 0 + countTags (eqb 0x02) cs) + (cond (eqb 0x03 t) 1 0 + countTags (eqb 0x03) cs)
+    go t known.origin i = omega arith
+    go t known.routerKey i = omega arith
+    go t known.aspa i = omega arith
+
+-- those of a delta are of four that announce and three that withdraw
+abbrev Announced : List Cell → Type 0
+Announced cs = countTags isAnnounced cs ≡ countTags (eqb 0x11) cs + countTags (eqb 0x21) cs + countTags (eqb 0x31) cs + countTags (eqb 0x33) cs
+
+announced-tags : (cs : List Cell) → All (λ (c : Cell). Known Delta (c .tag)) cs → Announced cs
+announced-tags [] h = refl
+announced-tags (c ∷ cs) h = go (c .tag) (c .body) (h .0) (announced-tags cs (h .1))
+  where
+    go : (t : ℕ) (b : Bytes) → Known Delta t → Announced cs → Announced (record { tag = t; body = b } ∷ cs)
+    go t b known.announcedOrigin i = omega arith
+    go t b known.withdrawnOrigin i = omega arith
+    go t b known.announcedKey i = omega arith
+    go t b known.withdrawnKey i = omega arith
+    go t b known.announcedAspa i = omega arith
+    go t b known.withdrawnAspa i = omega arith
+    go t b known.updatedAspa i = omega arith
+
+abbrev Withdrawn : List Cell → Type 0
+Withdrawn cs = countTags isWithdrawn cs ≡ countTags (eqb 0x12) cs + countTags (eqb 0x22) cs + countTags (eqb 0x32) cs
+
+withdrawn-tags : (cs : List Cell) → All (λ (c : Cell). Known Delta (c .tag)) cs → Withdrawn cs
+withdrawn-tags [] h = refl
+withdrawn-tags (c ∷ cs) h = go (c .tag) (c .body) (h .0) (withdrawn-tags cs (h .1))
+  where
+    go : (t : ℕ) (b : Bytes) → Known Delta t → Withdrawn cs → Withdrawn (record { tag = t; body = b } ∷ cs)
+    go t b known.announcedOrigin i = omega arith
+    go t b known.withdrawnOrigin i = omega arith
+    go t b known.announcedKey i = omega arith
+    go t b known.withdrawnKey i = omega arith
+    go t b known.announcedAspa i = omega arith
+    go t b known.withdrawnAspa i = omega arith
+    go t b known.updatedAspa i = omega arith
+
+-- ---- a delta that leads from A to C
+
 module _ (A C D : Bytes) (a : GoodSnapshot A) (l : LeadsTo A C D) where
   even-map : (k : ℕ) → held (ofKind k) (items C) + taken (ofKind k) (changes D) ≡ held (ofKind k) (items A) + brought (ofKind k) (changes D)
   even-map k =
@@ -107,4 +161,13 @@ module _ (A C D : Bytes) (a : GoodSnapshot A) (l : LeadsTo A C D) where
       ) (even-map k)
 
   pub balanced : Balance A D C
-  balanced = let e = even (leads-fine A C D a l) in record { origins = e 1; router-keys = e 2; customers = e 3 }
+  balanced =
+      let c = leads-fine A C D a l in
+      let o : tagged 0x01 C + tagged 0x12 D ≡ tagged 0x01 A + tagged 0x11 D = even c 1 in
+      let r : tagged 0x02 C + tagged 0x22 D ≡ tagged 0x02 A + tagged 0x21 D = even c 2 in
+      let s : tagged 0x03 C + tagged 0x32 D ≡ tagged 0x03 A + tagged 0x31 D = even c 3 in
+      let x = item-tags (cells C) (known-run Snapshot (fine-run Snapshot C c)) in
+      let y = item-tags (cells A) (known-run Snapshot (fine-run Snapshot A (a .fine))) in
+      let n = announced-tags (cells D) (known-run Delta (fine-run Delta D (l .fine))) in
+      let w = withdrawn-tags (cells D) (known-run Delta (fine-run Delta D (l .fine))) in
+      record { origins = o; router-keys = r; customers = s; all = omega (arith, x, y, n, w) }

@@ -18,7 +18,8 @@ use Rattle.field.specs.Cells as run
 use Rattle.payload.specs.Content.{Bytes}
 use Rattle.payload.specs.Count.{announced}
 use Rattle.payload.specs.Payload.{entries, encode}
-use Rattle.walk.specs.Fit.{misfit}
+use Rattle.walk.specs.declared.fit.Fit.the-variants.{Misfit}
+use Rattle.walk.specs.Fit.{misfit, fitOf}
 use Rattle.delta.specs.Answer.{differenceOf, mergedOf, appliedOf}
 use Rattle.delta.specs.Shortest.{LeadsTo, tagged}
 
@@ -54,6 +55,10 @@ pub record Examples : Type 0 where
   idle : LeadsTo (held p) (held p) (updated p p)
   idle-length : length (updated p p) ≡ 17
   idle-difference : differenceOf (held p) (held p) ≡ []
+  -- an announcement over a held key would yield the new providers in 11 bytes where the difference has 17, but cannot be applied
+  unfit-yields : appliedOf (held p) (0x31 ∷ 0 ∷ 8 ∷ (customer ++ q)) ≡ held q
+  unfit : fitOf (held p) (0x31 ∷ 0 ∷ 8 ∷ (customer ++ q)) ≡ Misfit 0
+  fit-difference : differenceOf (held p) (held q) ≡ updated p q
   -- off a chain two groupings of the same good deltas differ
   announce-good : verdict Delta (origin 0x11) ≡ Fine
   withdraw-good : verdict Delta (origin 0x12) ≡ Fine
@@ -76,6 +81,9 @@ examples = record {
   idle = record { fine = refl; fits = refl; yields = refl };
   idle-length = refl;
   idle-difference = refl;
+  unfit-yields = refl;
+  unfit = refl;
+  fit-difference = refl;
   announce-good = refl;
   withdraw-good = refl;
   same-leaves = refl;
