@@ -15,7 +15,7 @@ use Rattle.order.proofs.Walk.{walk-nil, walk-right, walk-less, walk-equal, walk
 use Rattle.change.specs.Change.{Change, announce, withdraw, update}
 use Rattle.change.specs.Difference.{Snapshot, Delta}
 use Rattle.change.specs.Application.{applyAt, fits, fitsAt, apply, Applies}
-use Rattle.change.specs.Balance.{brings, takes, held, brought, taken}
+use Rattle.change.specs.Balance.{ofKind, brought, taken}
 use Rattle.change.proofs.Whole.{apply-none}
 use Rattle.change.proofs.Items.{applies-head, applies-tail}
 
@@ -39,26 +39,26 @@ module _ {K W : Type 0} {cmp : K → K → Ordering} (O : TotalOrder cmp) (val :
 
     -- the equation for a delta, and for one item more that stands at a key where nothing is held, or where something is
     abbrev Even : Snapshot K W → Delta K W → Type 0
-    Even A D = held kind (apply cmp A D) + taken kind D ≡ held kind A + brought kind D
+    Even A D = ofKind kind (apply cmp A D) + taken kind D ≡ ofKind kind A + brought kind D
 
     new : (A R : Snapshot K W) (k : K) (d : Change W) (D : Delta K W) → fits val none d ≡ true →
-        held kind R + taken kind D ≡ held kind A + brought kind D →
-        held kind (emit k (applyAt none (some d)) R) + taken kind (record { key = k; val = d } ∷ D) ≡ held kind A + brought kind (record { key = k; val = d } ∷ D)
+        ofKind kind R + taken kind D ≡ ofKind kind A + brought kind D →
+        ofKind kind (emit k (applyAt none (some d)) R) + taken kind (record { key = k; val = d } ∷ D) ≡ ofKind kind A + brought kind (record { key = k; val = d } ∷ D)
     new A R k (announce n) D f i = omega arith
     new A R k (withdraw p) D f i = unfit f
     new A R k (update p n) D f i = unfit f
 
     old : (A R : Snapshot K W) (k : K) (v : W) (d : Change W) (D : Delta K W) → fits val (some v) d ≡ true →
-        held kind R + taken kind D ≡ held kind A + brought kind D →
-        held kind (emit k (applyAt (some v) (some d)) R) + taken kind (record { key = k; val = d } ∷ D) ≡
-        held kind (record { key = k; val = v } ∷ A) + brought kind (record { key = k; val = d } ∷ D)
+        ofKind kind R + taken kind D ≡ ofKind kind A + brought kind D →
+        ofKind kind (emit k (applyAt (some v) (some d)) R) + taken kind (record { key = k; val = d } ∷ D) ≡
+        ofKind kind (record { key = k; val = v } ∷ A) + brought kind (record { key = k; val = d } ∷ D)
     old A R k v (announce n) D f i = unfit f
     old A R k v (withdraw p) D f i = omega arith
     old A R k v (update p n) D f i = omega arith
 
     -- over any kind of keys
     pub balance : (A : Snapshot K W) (D : Delta K W) → Sorted cmp A → Sorted cmp D → Applies cmp val A D →
-        held kind (apply cmp A D) + taken kind D ≡ held kind A + brought kind D
+        ofKind kind (apply cmp A D) + taken kind D ≡ ofKind kind A + brought kind D
     balance [] [] s t h = rw walk-nil
     balance [] (y ∷ D) s t h =
         rw walk-right (new [] (apply cmp [] D) (y .key) (y .val) D (applies-head O val [] y D h) (balance [] D s (t .1) (applies-tail O val [] y D t h)))

@@ -14,7 +14,7 @@ use Rattle.change.specs.Difference.{Delta, diff}
 use Rattle.change.specs.Merge.{table, merge, mergeAll}
 use Rattle.change.specs.Application.{fits, apply}
 use Rattle.change.specs.Grouping.{Grouping, alone, grouped, leaves, mergeTree}
-use Rattle.change.specs.Balance.{held, brought, taken}
+use Rattle.change.specs.Balance.{ofKind, brought, taken}
 
 abbrev B : Type 0
 B = List ℕ
@@ -156,7 +156,7 @@ idle-longer = refl
 abbrev isAspa : B → Bool
 isAspa k = eqb (getD k 0 0) 3
 
-pub aspa-held : held isAspa (aspa p) ≡ 1
+pub aspa-held : ofKind isAspa (aspa p) ≡ 1
 aspa-held = refl
 
 pub aspa-brought : brought isAspa (aspa (announce p)) ≡ 1

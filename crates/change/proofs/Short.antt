@@ -9,11 +9,11 @@ use lib.ListN.{length}
 use Rattle.order.specs.declared.Ordering.{Ordering}
 use Rattle.order.specs.declared.Ordering.the-variants.{Less, Equal, Greater}
 use Rattle.order.specs.Comparison.{flip, TotalOrder}
-use Rattle.order.specs.Map.{Item, own, lookup, Sorted}
+use Rattle.order.specs.Map.{Item, lookup, Sorted}
 use Rattle.order.proofs.Map.{none≢some, absent, absent-at}
 use Rattle.change.specs.Change.{Change, announce, withdraw, update, unlessEqual}
 use Rattle.change.specs.Difference.{Snapshot, Delta, diffAt, diff}
-use Rattle.change.specs.Application.{isEqual, applyAt, fitsAt, apply}
+use Rattle.change.specs.Application.{isEqual, applyAt, fitsAt}
 use Rattle.change.specs.Short.{Part, end, kept, left-out, LeadsTo, Short}
 use Rattle.change.proofs.Tables.{diff-self}
 use Rattle.change.proofs.Whole.{diff-sorted, diff-lookup, apply-lookup}

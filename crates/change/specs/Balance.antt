@@ -24,8 +24,8 @@ takes kind (update p n) = false
 
 module _ {K W : Type 0} (kind : K → Bool) where
   -- the items of a snapshot whose keys are of the kind; how many of them a delta brings, and how many it takes
-  abbrev pub held : Snapshot K W → ℕ
-  held A = count (λ (x : Item K W). kind (x .key)) A
+  abbrev pub ofKind : Snapshot K W → ℕ
+  ofKind A = count (λ (x : Item K W). kind (x .key)) A
 
   abbrev pub brought : Delta K W → ℕ
   brought D = count (λ (x : Item K (Change W)). brings (kind (x .key)) (x .val)) D

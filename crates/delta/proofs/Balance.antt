@@ -12,7 +12,7 @@ use Rattle.order.specs.Map.{All}
 use Rattle.order.proofs.Comparison.{strings}
 use Rattle.change.specs.Change.{Change, announce, withdraw, update}
 use Rattle.change.specs.Difference as change
-use Rattle.change.specs.Balance.{brings, takes, held, brought, taken}
+use Rattle.change.specs.Balance.{brings, takes, ofKind, brought, taken}
 use Rattle.change.proofs.Balance as maps
 use Rattle.field.specs.declared.tag.Form.{Form}
 use Rattle.field.specs.declared.tag.Form.the-variants.{Snapshot, Delta}
@@ -26,7 +26,7 @@ use Rattle.field.proofs.Run.{fine-run, cells-end, cells-more}
 use Rattle.payload.specs.Content.{Bytes, digit, entryOf, cellFor}
 use Rattle.payload.specs.Count.{isAnnounced, isWithdrawn, countTags}
 use Rattle.payload.specs.Payload.{entries, items, changes}
-use Rattle.payload.proofs.Faithful.{faithful, entries-end, entries-more}
+use Rattle.payload.proofs.Faithful.{entries-end, entries-more}
 use Rattle.payload.proofs.Known as known
 use Rattle.payload.proofs.Known.{Known}
 use Rattle.delta.specs.Shortest.{GoodSnapshot, LeadsTo, tagged, Balance}
@@ -76,18 +76,18 @@ tag-takes k g (withdraw p) = shifted k g 2
 tag-takes k g (update p n) = ne-eqb (k * 16 + 2) (g * 16 + 3) (λ q. omega arith)
 
 -- keys of a kind, by their first byte
-abbrev ofKind : ℕ → Bytes → Bool
-ofKind k key = eqb k (getD key 0 0)
+abbrev isKind : ℕ → Bytes → Bool
+isKind k key = eqb k (getD key 0 0)
 
-held-tags : (k : ℕ) (A : change.Snapshot Bytes Bytes) → countTags (eqb k) (map (cellFor Snapshot) A) ≡ held (ofKind k) A
+held-tags : (k : ℕ) (A : change.Snapshot Bytes Bytes) → countTags (eqb k) (map (cellFor Snapshot) A) ≡ ofKind (isKind k) A
 held-tags k [] = refl
-held-tags k (x ∷ A) = ap (λ (n : ℕ). cond (ofKind k (x .key)) 1 0 + n) (held-tags k A)
+held-tags k (x ∷ A) = ap (λ (n : ℕ). cond (isKind k (x .key)) 1 0 + n) (held-tags k A)
 
-brought-tags : (k : ℕ) (D : change.Delta Bytes Bytes) → countTags (eqb (k * 16 + 1)) (map (cellFor Delta) D) ≡ brought (ofKind k) D
+brought-tags : (k : ℕ) (D : change.Delta Bytes Bytes) → countTags (eqb (k * 16 + 1)) (map (cellFor Delta) D) ≡ brought (isKind k) D
 brought-tags k [] = refl
 brought-tags k (x ∷ D) = ap₂ (λ (t : Bool) (n : ℕ). cond t 1 0 + n) (tag-brings k (getD (x .key) 0 0) (x .val)) (brought-tags k D)
 
-taken-tags : (k : ℕ) (D : change.Delta Bytes Bytes) → countTags (eqb (k * 16 + 2)) (map (cellFor Delta) D) ≡ taken (ofKind k) D
+taken-tags : (k : ℕ) (D : change.Delta Bytes Bytes) → countTags (eqb (k * 16 + 2)) (map (cellFor Delta) D) ≡ taken (isKind k) D
 taken-tags k [] = refl
 taken-tags k (x ∷ D) = ap₂ (λ (t : Bool) (n : ℕ). cond t 1 0 + n) (tag-takes k (getD (x .key) 0 0) (x .val)) (taken-tags k D)
 
@@ -145,10 +145,10 @@ withdrawn-tags (c ∷ cs) h = go (c .tag) (c .body) (h .0) (withdrawn-tags cs (h
 -- ---- a delta that leads from A to C
 
 module _ (A C D : Bytes) (a : GoodSnapshot A) (l : LeadsTo A C D) where
-  even-map : (k : ℕ) → held (ofKind k) (items C) + taken (ofKind k) (changes D) ≡ held (ofKind k) (items A) + brought (ofKind k) (changes D)
+  even-map : (k : ℕ) → ofKind (isKind k) (items C) + taken (isKind k) (changes D) ≡ ofKind (isKind k) (items A) + brought (isKind k) (changes D)
   even-map k =
       rw (leads-after A C D a l)
-      (maps.balance strings bytes (ofKind k) (items A) (changes D) (good-map A (good-of A a) .sorted) (leads-map A C D a l .ascends) (leads-map A C D a l .applies))
+      (maps.balance strings bytes (isKind k) (items A) (changes D) (good-map A (good-of A a) .sorted) (leads-map A C D a l .ascends) (leads-map A C D a l .applies))
 
   -- of the kind k
   even : verdict Snapshot C ≡ Fine → (k : ℕ) → tagged k C + tagged (k * 16 + 2) D ≡ tagged k A + tagged (k * 16 + 1) D

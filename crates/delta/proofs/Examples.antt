@@ -1,7 +1,7 @@
 -- Worked examples on bytes: a delta that is longer than the difference, two groupings that differ, and a balance.
 use Prim.Native.Nat.{ℕ}
 use mathlib.Core.Path.{_≡_, refl}
-use mathlib.Core.List.{List, [], _∷_, _++_}
+use mathlib.Core.List.{[], _∷_, _++_}
 use lib.ListN.{length, replicate}
 use Rattle.order.specs.Walk.{walk}
 use Rattle.change.specs.Grouping.{Grouping, alone, grouped, leaves, mergeTree}

@@ -71,9 +71,9 @@ tagged tag s = countTags (eqb tag) (cells s)
 pub record Balance (A D C : Bytes) : Type 0 where
   pub origins : tagged 0x01 C + tagged 0x12 D ≡ tagged 0x01 A + tagged 0x11 D
   pub router-keys : tagged 0x02 C + tagged 0x22 D ≡ tagged 0x02 A + tagged 0x21 D
-  -- of ASPAs, each with its customer: an update (tag 0x33), which is among the announced of an answer's counts, is on neither side
+  -- ASPAs, one for each customer: an update (tag 0x33), which an answer's counts have among the announced, stands on neither side
   pub customers : tagged 0x03 C + tagged 0x32 D ≡ tagged 0x03 A + tagged 0x31 D
-  -- of all items, by the counts of an answer
+  -- all items, by the counts of an answer
   pub all : length (cells C) + withdrawn D + tagged 0x33 D ≡ length (cells A) + announced D
 
 pub record Shortest : Type 0 where

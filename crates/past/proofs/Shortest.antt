@@ -1,29 +1,23 @@
 -- After every run of calls a served query's answer is the shortest delta that leads the router home.
-use Prim.Native.Nat.{ℕ, _^_, _<_}
-use mathlib.Core.Path.{_≡_, refl, sym, ap, _∙_}
+use Prim.Native.Nat.{ℕ}
+use mathlib.Core.Path.{_≡_, refl}
 use mathlib.Core.List.{List, [], _∷_}
 use mathlib.Core.Option.{Option, none, some}
 use mathlib.Core.Bool.{Bool, true, false, cond}
 use lib.Dec.{eqb}
-use lib.ListN.{length}
 use Rattle.order.specs.Map.{All}
 use Rattle.order.proofs.Map.{none≢some}
-use Rattle.change.specs.History.{newest}
 use Rattle.change.proofs.Chain.{all-newest}
 use Rattle.serial.specs.declared.Serial.{Serial}
-use Rattle.serial.specs.declared.Session.{Session}
 use Rattle.serial.specs.Serial.{nextOf}
 use Rattle.payload.specs.Content.{Bytes}
-use Rattle.item.specs.declared.sink.Counts.{Counts}
-use Rattle.delta.specs.Answer.{differenceOf}
 use Rattle.delta.specs.Shortest.{GoodSnapshot, LeadsTo}
 use Rattle.delta.proofs.Shortest as delta
 use Rattle.past.specs.declared.create.Creation.the-variants.{Done}
-use Rattle.past.specs.declared.query.Answer.the-variants.{Served}
 use Rattle.past.specs.Create.{createOf}
 use Rattle.past.specs.Update.{Step, refuse, first, unchanged, add, stepFor, updateAt, updateOf}
 use Rattle.past.specs.Run.{World, Call, update, query, full, givenBy, givenAfter, Run, startOf, runOf, orLast, carriedFrom, carried}
-use Rattle.past.specs.Promise.{OfBytes, Leads, asks, outputOf, current, Promise}
+use Rattle.past.specs.Promise.{OfBytes, Leads, outputOf, current, Promise}
 use Rattle.past.specs.Shortest.{ShortestHome, Shortest}
 use Rattle.past.proofs.Lists.{all-push}
 use Rattle.past.proofs.Steps.{step-add, step-first}
