@@ -2,7 +2,7 @@
 use mathlib.Core.Path.{_≡_, refl, ap, _∙_}
 use mathlib.Core.List.{[], _∷_}
 use mathlib.Core.Option.{none, some}
-use mathlib.Core.Bool.{Bool, true, false, cond}
+use mathlib.Core.Bool.{Bool, true, false}
 use Prim.Native.Nat.{ℕ, _+_}
 use native.Mathlib.Omega.{arith}
 use Rattle.order.specs.declared.Ordering.{Ordering}
@@ -34,9 +34,6 @@ module _ {K W : Type 0} {cmp : K → K → Ordering} (O : TotalOrder cmp) (val :
       go Greater e f = f
 
   module _ (kind : K → Bool) where
-    abbrev one : K → ℕ
-    one k = cond (kind k) 1 0
-
     -- the equation for a delta, and for one item more that stands at a key where nothing is held, or where something is
     abbrev Even : Snapshot K W → Delta K W → Type 0
     Even A D = ofKind kind (apply cmp A D) + taken kind D ≡ ofKind kind A + brought kind D
