@@ -50,7 +50,7 @@ use Rattle.past.specs.Create.{createAt, createOf}
 use Rattle.past.specs.Update.{Step, refuse, first, unchanged, add, stepFor, updateAt, updateOf, snapshotsAt, updateSnapshots, deltasAt, updateDeltas}
 use Rattle.past.specs.Query.{isServed, isSession, mergedLast, answerOf, servedWith, queryOut}
 use Rattle.past.specs.Full.{fullOf, notifyOf, readyOf}
-use Rattle.past.specs.Run.{World, Call, update, query, full, notify, ready, queried, fully, noticed, marked, replyOf, lentTo, leftIn, stepOf, refusedUpdate, refusedAnswer, numbered, refusedAs, refusal, Run, startOf, runOf, carried}
+use Rattle.past.specs.Run.{World, Call, update, query, full, notify, ready, queried, fully, noticed, isReady, replyOf, lentTo, leftIn, stepOf, refusedUpdate, refusedAnswer, numbered, refusedAs, refusal, Run, startOf, runOf, carried}
 use Rattle.past.specs.Promise.{OfBytes, changesIn, serialIn, InRule, due, Leads, current, writtenIn, queriedIn, Promise}
 use Rattle.past.proofs.Lists.{map-lastN, map-newest, map-nth, all-map}
 use Rattle.delta.specs.Demand.{GoodSnapshot, holding}
@@ -360,7 +360,7 @@ module _ (session keep : ℕ) (w : World) where
         go [] i n q = absurd (n refl)
         go (S ∷ Ts) i n q = answer-leads i asked q l
 
-  inv-mark : (given : List Bytes) → Inv session keep w given → replyOf w ready ≡ marked true ↔ ¬ (given ≡ [])
+  inv-mark : (given : List Bytes) → Inv session keep w given → replyOf w ready ≡ isReady true ↔ ¬ (given ≡ [])
   unfolding readyOf
   inv-mark [] i = (λ e. let p = i .active in absurd (let z : _≡_ {A = ℕ} 0 1 = cc in omega arith), λ n. absurd (n refl))
   inv-mark (S ∷ Ts) i = (λ e n. let z : _≡_ {A = ℕ} 0 1 = cc in omega arith, λ n. rw (i .active))

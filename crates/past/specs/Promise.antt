@@ -39,7 +39,7 @@ use Rattle.past.specs.Store.{total, heldSnapshot}
 use Rattle.past.specs.WellFormed.{wellFormed}
 use Rattle.past.specs.Create.{freshOf, createOf}
 use Rattle.past.specs.Query.{queryOf, queryOut}
-use Rattle.past.specs.Run.{World, Call, update, query, full, notify, ready, updated, queried, fully, noticed, marked, replyOf, lentTo, leftIn, stepOf, numbered, refusedAs, refusal, Run, carried}
+use Rattle.past.specs.Run.{World, Call, update, query, full, notify, ready, updated, queried, fully, noticed, isReady, replyOf, lentTo, leftIn, stepOf, numbered, refusedAs, refusal, Run, carried}
 
 -- the new snapshot of an update is a list of bytes, good or not; of other calls nothing is asked
 abbrev pub OfBytes : Call → Type 0
@@ -196,4 +196,4 @@ pub record Promise (session keep : ℕ) (r : Run) : Type 0 where
   -- the full answer names the 16-bit session and F too, with the current snapshot; so does the notice; the mark says whether one was accepted
   pub whole : replyOf (r .world) full ≡ fully (record { session = sessionOf session; serial = serialIn (r .given); answer = Held (length (current (r .world))) })
   pub notice : replyOf (r .world) notify ≡ noticed (record { session = sessionOf session; serial = serialIn (r .given) })
-  pub mark : replyOf (r .world) ready ≡ marked true ↔ ¬ (r .given ≡ [])
+  pub mark : replyOf (r .world) ready ≡ isReady true ↔ ¬ (r .given ≡ [])

@@ -47,7 +47,7 @@ pub data Reply : Type 0 where
   queried : Queried → (out : Bytes) → Reply
   fully : Full → Reply
   noticed : Notice → Reply
-  marked : (active : Bool) → Reply
+  isReady : (active : Bool) → Reply
 
 abbrev pub replyOf : World → Call → Reply
 replyOf w (update new) = updated (updateOf (w .history) new (w .snapshots) (w .deltas) .answer)
@@ -56,7 +56,7 @@ replyOf w (query session asked out) =
     (queryOut (w .history) session asked (w .snapshots) (w .deltas) out)
 replyOf w full = fully (fullOf (w .history) (w .snapshots) (w .deltas))
 replyOf w notify = noticed (notifyOf (w .history))
-replyOf w ready = marked (readyOf (w .history))
+replyOf w ready = isReady (readyOf (w .history))
 
 -- the output lent to a call: to a query alone
 abbrev pub lentTo : Call → Bytes
@@ -72,7 +72,7 @@ leftIn (updated a) = []
 leftIn (queried q out) = out
 leftIn (fully f) = []
 leftIn (noticed n) = []
-leftIn (marked active) = []
+leftIn (isReady active) = []
 
 -- what a call leaves
 abbrev pub stepOf : World → Call → World
@@ -106,7 +106,7 @@ refusalIn (updated a) = refusedUpdate a
 refusalIn (queried q out) = refusedAnswer (q .answer)
 refusalIn (fully f) = refusedFull (f .answer)
 refusalIn (noticed n) = none
-refusalIn (marked active) = none
+refusalIn (isReady active) = none
 
 -- and that in document 01's numbers
 abbrev pub numbered : Option Refusal → Option Values
