@@ -6,7 +6,6 @@ use mathlib.Core.Bool.{Bool, true, false, not}
 use native.Mathlib.Omega.{arith}
 use lib.Dec.{eqb}
 use lib.ListN.{length}
-use Rattle.order.specs.Map.{All}
 use Rattle.payload.specs.Content.{Bytes}
 use Rattle.past.specs.declared.state.History.{History}
 use Rattle.past.specs.declared.create.Creation.{Creation}
@@ -17,12 +16,12 @@ use Rattle.past.specs.Update.{Step, refuse, first, unchanged, add, stepFor, upd
 use Rattle.past.specs.Query.{queryOf, queryOut}
 use Rattle.past.specs.Full.{fullOf, notifyOf, readyOf}
 use Rattle.past.specs.Run.{World, Call, update, query, full, notify, ready, replyOf, stepOf, Run, startOf, runOf}
-use Rattle.past.specs.Promise.{OfBytes, Promise}
+use Rattle.past.specs.Promise.{Promise}
 use Rattle.past.proofs.Runs as past
 use Rattle.host.specs.declared.state.State.{State}
-use Rattle.host.specs.Told.{flatCreation, madeCreated, stateAfter, madeUpdated, toldQueried, toldFull}
+use Rattle.host.specs.Told.{flatCreation, stateAfter, madeUpdated, toldQueried, toldFull}
 use Rattle.host.specs.State.{historyOf, markOf, stateOf}
-use Rattle.host.specs.Run.{Kept, answer, told, whole, notice, mark, handedOf, keptAfter, createdKept, keptRun, flatReply, Hosted}
+use Rattle.host.specs.Run.{Kept, answer, told, whole, notice, mark, handedOf, keptAfter, createdKept, keptRun, flatReply, Hosted, EveryHosted}
 
 -- an active mark is handed back as it was
 mark-back : (b : Bool) → not (eqb (markOf b) 0) ≡ b
@@ -106,9 +105,7 @@ done-of creation.Done e = refl
 done-of (creation.Refused r) e = absurd (let z : _≡_ {A = ℕ} 0 1 = e in omega arith)
 
 -- demand 3, second part, over every run of the exported calls from a taplevung_create that answers kind 1
-pub hosted : (session keep : ℕ) (snapshots deltas : Bytes) → madeCreated (createOf session keep snapshots deltas) .answer .kind ≡ 1 →
-    (calls : List Call) → All OfBytes calls →
-    Hosted session keep (keptRun (createdKept session keep snapshots deltas) calls) (runOf (startOf session keep snapshots deltas) calls)
+pub hosted : EveryHosted
 hosted session keep snapshots deltas e calls octets =
     hosted-at session keep (keptRun (createdKept session keep snapshots deltas) calls) (runOf (startOf session keep snapshots deltas) calls)
     (past.promise session keep snapshots deltas (done-of (createOf session keep snapshots deltas .answer) e) calls octets)

@@ -4,6 +4,7 @@ use mathlib.Core.Path.{_≡_}
 use mathlib.Core.List.{List, foldl}
 use mathlib.Core.Bool.{Bool}
 use lib.ListN.{length}
+use Rattle.order.specs.Map.{All}
 use Rattle.payload.specs.Content.{Bytes}
 use Rattle.past.specs.declared.notify.Notice.{Notice}
 use Rattle.past.specs.Create.{createOf}
@@ -11,7 +12,7 @@ use Rattle.past.specs.Update.{updateOf, updateSnapshots, updateDeltas}
 use Rattle.past.specs.Query.{queryOf, queryOut}
 use Rattle.past.specs.Full.{fullOf, notifyOf, readyOf}
 use Rattle.past.specs.Run.{World, Call, update, query, full, notify, ready, Reply, updated, queried, fully, noticed, isReady, replyOf, stepOf, Run, startOf, runOf}
-use Rattle.past.specs.Promise.{Promise}
+use Rattle.past.specs.Promise.{OfBytes, Promise}
 use Rattle.host.specs.declared.answer.Answer.{Answer}
 use Rattle.host.specs.declared.state.State.{State}
 use Rattle.host.specs.declared.told.Told.{Told}
@@ -84,3 +85,9 @@ pub record Hosted (session keep : ℕ) (k : Kept) (r : Run) : Type 0 where
   pub deltas : k .deltas ≡ r .world .deltas
   -- and each call hands back what it answers there
   pub handed : (c : Call) → handedOf k c ≡ flatReply (stepOf (r .world) c) (replyOf (r .world) c)
+
+-- after every taplevung_create that answers kind 1, whatever the calls
+abbrev pub EveryHosted : Type 0
+EveryHosted = (session keep : ℕ) (snapshots deltas : Bytes) → madeCreated (createOf session keep snapshots deltas) .answer .kind ≡ 1 →
+    (calls : List Call) → All OfBytes calls →
+    Hosted session keep (keptRun (createdKept session keep snapshots deltas) calls) (runOf (startOf session keep snapshots deltas) calls)

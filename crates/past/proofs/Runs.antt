@@ -51,7 +51,7 @@ use Rattle.past.specs.Update.{Step, refuse, first, unchanged, add, stepF
 use Rattle.past.specs.Query.{isServed, isSession, mergedLast, answerOf, servedWith, queryOut}
 use Rattle.past.specs.Full.{fullOf, notifyOf, readyOf}
 use Rattle.past.specs.Run.{World, Call, update, query, full, notify, ready, queried, fully, noticed, isReady, replyOf, lentTo, leftIn, stepOf, refusedUpdate, refusedAnswer, numbered, refusedAs, refusal, Run, startOf, runOf, carried}
-use Rattle.past.specs.Promise.{OfBytes, changesIn, serialIn, InRule, due, Leads, current, writtenIn, queriedIn, Promise}
+use Rattle.past.specs.Promise.{OfBytes, changesIn, serialIn, InRule, due, Leads, current, writtenIn, queriedIn, Promise, EveryRun}
 use Rattle.past.proofs.Lists.{map-lastN, map-newest, map-nth, all-map}
 use Rattle.delta.specs.Demand.{GoodSnapshot, holding}
 use Rattle.delta.proofs.Differences.{good-map, difference-applies, difference-fits, difference-yields}
@@ -369,8 +369,7 @@ module _ (session keep : ℕ) (w : World) where
   inv-current given i S Ts e = let j : Holds session keep w S Ts = rw e at i in j .current
 
 -- demand 3, second part: over every run of calls from a fresh history
-pub promise : (session keep : ℕ) (snapshots deltas : Bytes) → createOf session keep snapshots deltas .answer ≡ Done →
-    (calls : List Call) → All OfBytes calls → Promise session keep (runOf (startOf session keep snapshots deltas) calls)
+pub promise : EveryRun
 promise session keep snapshots deltas done calls octets =
     go (runOf (startOf session keep snapshots deltas) calls)
     (run-inv session keep (startOf session keep snapshots deltas) calls octets (start-inv session keep snapshots deltas done))

@@ -7,6 +7,7 @@ use mathlib.Core.Bool.{true}
 use mathlib.Core.Logic.{_↔_, _⊎_}
 use lib.ListN.{length, take}
 use Rattle.order.specs.Comparison.{bytes}
+use Rattle.order.specs.Map as order
 use Rattle.change.specs.Application.{Applies}
 use Rattle.change.specs.History.{lastN, newest}
 use Rattle.change.specs.Grouping.{steps}
@@ -39,7 +40,7 @@ use Rattle.past.specs.Store.{total, heldSnapshot}
 use Rattle.past.specs.WellFormed.{wellFormed}
 use Rattle.past.specs.Create.{freshOf, createOf}
 use Rattle.past.specs.Query.{queryOf, queryOut}
-use Rattle.past.specs.Run.{World, Call, update, query, full, notify, ready, updated, queried, fully, noticed, isReady, replyOf, lentTo, leftIn, stepOf, numbered, refusedAs, refusal, Run, carried}
+use Rattle.past.specs.Run.{World, Call, update, query, full, notify, ready, updated, queried, fully, noticed, isReady, replyOf, lentTo, leftIn, stepOf, numbered, refusedAs, refusal, Run, startOf, runOf, carried}
 
 -- the new snapshot of an update is a list of bytes, good or not; of other calls nothing is asked
 abbrev pub OfBytes : Call → Type 0
@@ -197,3 +198,8 @@ pub record Promise (session keep : ℕ) (r : Run) : Type 0 where
   pub whole : replyOf (r .world) full ≡ fully (record { session = sessionOf session; serial = serialIn (r .given); answer = Held (length (current (r .world))) })
   pub notice : replyOf (r .world) notify ≡ noticed (record { session = sessionOf session; serial = serialIn (r .given) })
   pub mark : replyOf (r .world) ready ≡ isReady true ↔ ¬ (r .given ≡ [])
+
+-- of every run of calls from a creation that is done
+abbrev pub EveryRun : Type 0
+EveryRun = (session keep : ℕ) (snapshots deltas : Bytes) → createOf session keep snapshots deltas .answer ≡ creation.Done →
+    (calls : List Call) → order.All OfBytes calls → Promise session keep (runOf (startOf session keep snapshots deltas) calls)
