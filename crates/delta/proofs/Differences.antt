@@ -16,7 +16,6 @@ use Rattle.field.specs.declared.verdict.Verdict.the-variants.{Fine}
 use Rattle.field.specs.Verdict.{verdict}
 use Rattle.field.specs.Cells.{Cell, cells}
 use Rattle.field.specs.Cells as run
-use Rattle.field.specs.Run.{AllBytes}
 use Rattle.payload.specs.Content.{Bytes, entryOf}
 use Rattle.payload.specs.Valid.{IsMap}
 use Rattle.payload.specs.Payload.{entries, encode, items, changes}

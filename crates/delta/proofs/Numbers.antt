@@ -1,5 +1,4 @@
 -- A refusal is known by document 01's number, argument and offset.
-use Prim.Native.Nat.{ℕ}
 use mathlib.Core.Path.{_≡_, refl, sym, ap, _∙_}
 use mathlib.Core.Bool.{cond}
 use lib.Dec.{eqb}

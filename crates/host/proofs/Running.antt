@@ -1,6 +1,6 @@
 -- A run of the exported calls is the run of the same calls on a history.
 use Prim.Native.Nat.{ℕ}
-use mathlib.Core.Path.{_≡_, refl, sym, ap, _∙_}
+use mathlib.Core.Path.{_≡_, refl, ap, _∙_}
 use mathlib.Core.List.{List, [], _∷_}
 use mathlib.Core.Bool.{Bool, true, false, not}
 use native.Mathlib.Omega.{arith}
@@ -10,7 +10,6 @@ use Rattle.payload.specs.Content.{Bytes}
 use Rattle.past.specs.declared.state.History.{History}
 use Rattle.past.specs.declared.create.Creation.{Creation}
 use Rattle.past.specs.declared.create.Creation.the-variants as creation
-use Rattle.past.specs.declared.update.Updated.{Updated}
 use Rattle.past.specs.Create.{createOf}
 use Rattle.past.specs.Update.{Step, refuse, first, unchanged, add, stepFor, updateAt, updateOf, updateSnapshots, updateDeltas}
 use Rattle.past.specs.Query.{queryOf, queryOut}

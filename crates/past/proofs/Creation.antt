@@ -1,5 +1,5 @@
 -- Creation answers as document 01 says.
-use Prim.Native.Nat.{ℕ, _≤_, _<_}
+use Prim.Native.Nat.{ℕ, _≤_}
 use mathlib.Core.Path.{_≡_, refl, sym, _∙_}
 use mathlib.Core.Option.{Option, none}
 use mathlib.Core.Bool.{Bool, true, false, cond}
@@ -18,9 +18,8 @@ use Rattle.delta.specs.declared.admit.Admitted.{Admitted}
 use Rattle.delta.specs.declared.admit.Admitted.the-variants.{Yes, No}
 use Rattle.delta.specs.Refusal.{Values}
 use Rattle.delta.specs.Admission.{andThen}
-use Rattle.past.specs.declared.create.Creation.the-variants.{Done}
 use Rattle.past.specs.WellFormed.{goodKeep}
-use Rattle.past.specs.Create.{freshOf, createAt, createOf}
+use Rattle.past.specs.Create.{createAt, createOf}
 use Rattle.past.specs.Run.{refusal}
 use Rattle.past.specs.Promise.{refusedCreation, Creates}
 use Rattle.past.proofs.Numbers.{number-of, argument-of}

@@ -1,5 +1,4 @@
 -- Replies that refuse, by document 01's numbers.
-use Prim.Native.Nat.{ℕ}
 use mathlib.Core.Path.{_≡_, refl, ap}
 use mathlib.Core.Option.{Option, none, some}
 use mathlib.Core.Logic.{_↔_}
@@ -24,11 +23,6 @@ refusal-is (some r) q = (
   λ e. let v : valuesOf r ≡ valuesOf q = cc in ap (λ (x : Refusal). some x) (same-refusal r q v),
   λ e. ap numbered e,
 )
-
--- one that has numbers is one
-pub refusal-of : (o : Option Refusal) (x : Values) → numbered o ≡ some x → (r : Refusal) × (o ≡ some r)
-refusal-of none x e = none≢some refl e
-refusal-of (some r) x e = (r, refl)
 
 pub number-of : {x y : Values} → some x ≡ some y → x .number ≡ y .number
 number-of {x} {y} e = let q : x ≡ y = cc in ap (λ (v : Values). v .number) q

@@ -1,7 +1,7 @@
 -- Every update of a run is answered as document 01 says.
 use Prim.Native.Nat.{ℕ, _-_, _≤_, _<_}
 use mathlib.Core.Path.{_≡_, refl, sym, ap, _∙_}
-use mathlib.Core.List.{List, [], _∷_, _++_, map}
+use mathlib.Core.List.{List, [], _∷_, map}
 use mathlib.Core.Option.{none, some}
 use mathlib.Core.Bool.{Bool, true, false}
 use mathlib.Core.Logic.{_↔_, _⊎_, inl, inr}
@@ -10,9 +10,7 @@ use lib.Dec.{leb, eqb}
 use lib.ListN.{length, length-take}
 use lib.Seq.{drop-nil}
 use borrow.Author.Tests.{leb-true, leb-false, eqb-true, eqb-false}
-use Rattle.order.proofs.Map.{none≢some}
 use Rattle.change.specs.History.{lastN}
-use Rattle.change.specs.Grouping.{steps}
 use Rattle.change.proofs.Chain.{all-newest}
 use Rattle.field.specs.declared.tag.Form.the-variants.{Snapshot}
 use Rattle.field.specs.declared.verdict.Verdict.the-variants.{Bad, NotAbove}
@@ -29,13 +27,13 @@ use Rattle.delta.specs.Answer.{differenceOf, countsOf}
 use Rattle.delta.specs.Demand.{GoodSnapshot, Acceptable}
 use Rattle.delta.proofs.Differences.{difference-empty, difference-self}
 use Rattle.past.specs.declared.update.Update.{Update}
-use Rattle.past.specs.declared.update.Update.the-variants.{First, Unchanged, Changed, Refused}
+use Rattle.past.specs.declared.update.Update.the-variants.{First, Unchanged, Changed}
 use Rattle.past.specs.Store.{total}
 use Rattle.past.specs.WellFormed.{wellFormed}
-use Rattle.past.specs.Update.{Step, refuse, first, unchanged, add, deltasWith, stepFor, updateAt, updateOf}
+use Rattle.past.specs.Update.{Step, refuse, first, unchanged, add, deltasWith, stepFor, updateOf}
 use Rattle.past.specs.Run.{World, update, updated, replyOf, refusedUpdate, numbered, refusedAs, refusal}
 use Rattle.past.specs.Promise.{current, differencesIn, Room, Again, Updates}
-use Rattle.past.proofs.Steps.{Adds, Begins, Fills, fine-admitted, input-ten, input-one, input-two, step-add, step-first, step-unchanged, refused-step, first-step, same-step, changed-step, step-changed, input-refused, step-nine, unchanged-step, begins-step, first-nine, adds-step, later-nine}
+use Rattle.past.proofs.Steps.{fine-admitted, input-ten, input-one, input-two, step-add, step-first, step-unchanged, refused-step, first-step, same-step, changed-step, step-changed, input-refused, step-nine, unchanged-step, begins-step, first-nine, adds-step, later-nine}
 use Rattle.past.proofs.Invariant.{Waits, Holds, Inv, waits-formed, holds-formed, would-hold}
 use Rattle.past.proofs.Numbers.{through, update-refused}
 
