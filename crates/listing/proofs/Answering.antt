@@ -34,6 +34,7 @@ use Rattle.walk.specs.Walk.{Runs, mergedAs}
 use Rattle.delta.specs.Answer.{differenceOf, countsOf, outAfter, constructAt, constructOf, constructOut}
 use Rattle.delta.proofs.Answering.{admitted-inputs, runs-of, counts-are}
 use Rattle.delta.proofs.Demand.{difference-short}
+use Rattle.payload.specs.Limit.{limit}
 use Rattle.listing.specs.declared.listing.Listed.{Listed}
 use Rattle.listing.specs.declared.listing.Listed.the-variants as listed
 use Rattle.listing.specs.declared.report.Report.{Report}
@@ -90,7 +91,7 @@ module _ (d : Bytes) (serial : Serial) (o : Bytes) (x : Admitted) (e : x ≡ adm
 
     pub list-told : Told (report.Changed serial c) d
     list-told =
-        let short : length d ≤ 33_554_432 = inputs d (sym e ∙ y) .short-a in
+        let short : length d ≤ limit Delta = inputs d (sym e ∙ y) .short-a in
         record { is = record { within = rw k (omega arith); short = rw k short; are = rw all k } }
 
     pub list-made : (r : Listed) → r ≡ listedOf (listingOf serial (take (c .len) d)) (length o) → r ≡ listOf d serial (length o)
@@ -219,7 +220,7 @@ module _ (old new d : Bytes) where
   written-at Read Read = written-both answer refl
 
   module _ (o : Octets old) (n : Octets new) where
-    short : admitOf Snapshot old Snapshot new ≡ Yes → length D ≤ 33_554_432
+    short : admitOf Snapshot old Snapshot new ≡ Yes → length D ≤ limit Delta
     short a =
         let i = admitted-inputs Snapshot old Snapshot new a in
         difference-short old new

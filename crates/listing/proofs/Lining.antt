@@ -16,6 +16,8 @@ use Rattle.field.proofs.Run.{cells-at-cut}
 use Rattle.field.proofs.Walk.{good-end, good-cells}
 use Rattle.payload.specs.Content.{Bytes}
 use Rattle.item.proofs.Sinking.{part-length}
+use Rattle.payload.specs.Limit.{limit}
+use Rattle.field.specs.declared.tag.Form.the-variants.{Delta}
 use Rattle.listing.specs.Put.{Puts}
 use Rattle.listing.specs.Text.{hexDigit}
 use Rattle.listing.specs.Listing.{mark, hex, hexes, lineOf, linesOf}
@@ -52,13 +54,13 @@ hexes-length (x ∷ s) = omega (arith, hexes-length s)
 
 -- the first k bytes of s were put at i
 pub record Hexing (s o₀ : Bytes) (i : ℕ) (o : Bytes) (k end : ℕ) : Type 0 where
-  pub short : length s ≤ 33_554_432
+  pub short : length s ≤ limit Delta
   pub low : i < 2 ^ 62
   pub passed : k ≤ length s
   pub far : end ≡ i + 3 * k
   pub left : Left o end (hexes (drop k s)) o₀ i (hexes s)
 
-pub hexing-start : (s o : Bytes) (i : ℕ) → length s ≤ 33_554_432 → i < 2 ^ 62 → Hexing s o i o 0 i
+pub hexing-start : (s o : Bytes) (i : ℕ) → length s ≤ limit Delta → i < 2 ^ 62 → Hexing s o i o 0 i
 hexing-start s o i h g = record { short = h; low = g; passed = omega arith; far = omega arith; left = left-start o i (hexes s) }
 
 module _ (s o₀ : Bytes) (i : ℕ) (o : Bytes) (k end : ℕ) (c : Hexing s o₀ i o k end) where
@@ -93,7 +95,7 @@ unfolding lineOf
 line-length c = omega (arith, hexes-length (c .body), length-append (hexes (c .body)) (10 ∷ []))
 
 module _ (tag m : ℕ) (body o p q t : Bytes) (i j k l : ℕ) (f : Puts o i (m ∷ []) p j) (g : Puts p j (hex tag) q k) (h : Puts q k (hexes body) t l) where
-  pub line-room : length body ≤ 33_554_432 → i < 2 ^ 61 → l + 1 < 2 ^ 64
+  pub line-room : length body ≤ limit Delta → i < 2 ^ 61 → l + 1 < 2 ^ 64
   line-room n w = omega (arith, f .end, g .end, h .end, hexes-length body)
 
   pub line-put : (u : Bytes) (r : ℕ) → m ≡ mark tag → Puts t l (10 ∷ []) u r → Puts o i (lineOf (record { tag = tag; body = body })) u r
@@ -108,13 +110,13 @@ pub ruleset line = (line-put, line-room)
 
 -- the fields before `at` were put at i
 pub record Lining (s o₀ : Bytes) (i : ℕ) (o : Bytes) (at end : ℕ) : Type 0 where
-  pub short : length s ≤ 33_554_432
+  pub short : length s ≤ limit Delta
   pub low : i < 1_024
   pub within : at ≤ length s
   pub far : end ≤ i + 3 * at
   pub left : Left o end (linesOf (cells (drop at s))) o₀ i (linesOf (cells s))
 
-pub lining-start : (s o : Bytes) (i : ℕ) → length s ≤ 33_554_432 → i < 1_024 → Lining s o i o 0 i
+pub lining-start : (s o : Bytes) (i : ℕ) → length s ≤ limit Delta → i < 1_024 → Lining s o i o 0 i
 lining-start s o i h g = record { short = h; low = g; within = omega arith; far = omega arith; left = left-start o i (linesOf (cells s)) }
 
 module _ (s o₀ : Bytes) (i : ℕ) (o : Bytes) (at end : ℕ) (c : Lining s o₀ i o at end) where
@@ -141,7 +143,7 @@ module _ (s o₀ : Bytes) (i : ℕ) (o : Bytes) (at end : ℕ) (c : Lining s o�
       size : length (part s from to) ≡ to - from
       size = part-length s (record { from = from; to = to }) (body-ordered s at x f tag from to e) (body-within s at x f tag from to e)
 
-      pub lining-short : length (part s from to) ≤ 33_554_432
+      pub lining-short : length (part s from to) ≤ limit Delta
       lining-short = let w = body-within s at x f tag from to e in omega (arith, size, c .short)
 
       pub lining-again : (p : Bytes) (r : ℕ) → Puts o end (lineOf here) p r → Lining s o₀ i p to r

@@ -18,6 +18,8 @@ use Rattle.delta.specs.declared.admit.Admitted.the-variants.{Yes}
 use Rattle.item.specs.declared.sink.Counts.{Counts}
 use Rattle.delta.specs.Refusal.{numberOf, argumentOf, offsetOf}
 use Rattle.delta.specs.Answer.{countsOf, outAfter}
+use Rattle.payload.specs.Limit.{limit}
+use Rattle.field.specs.declared.tag.Form.the-variants.{Delta}
 use Rattle.listing.specs.declared.report.Report.{Report}
 use Rattle.listing.specs.declared.report.Report.the-variants.{Changed, Same, Refused, Absent}
 use Rattle.listing.specs.declared.listing.Listed.the-variants as listed
@@ -97,7 +99,7 @@ module _ (serial : Serial) (counts : Counts) (o p : Bytes) (i : ℕ) (h : Puts o
       puts-append o p q _ (linesOf (cells (take (counts .len) s))) 0 i r (rw e at h) f
 
 module _ (counts : Counts) (s : Bytes) (c : Counted counts s) where
-  pub counted-short : length (take (counts .len) s) ≤ 33_554_432
+  pub counted-short : length (take (counts .len) s) ≤ limit Delta
   counted-short = let e = length-take-le (counts .len) s (c .within) in omega (arith, c .short)
 
   pub counted-long : counts .len ≡ length (take (counts .len) s)

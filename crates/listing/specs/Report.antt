@@ -11,6 +11,8 @@ use Rattle.delta.specs.declared.refusal.Refusal.the-variants as refusal
 use Rattle.item.specs.declared.sink.Counts.{Counts}
 use Rattle.delta.specs.Refusal.{numberOf, argumentOf, offsetOf}
 use Rattle.delta.specs.Answer.{countsOf}
+use Rattle.payload.specs.Limit.{limit}
+use Rattle.field.specs.declared.tag.Form.the-variants.{Delta}
 use Rattle.listing.specs.declared.report.Report.{Report}
 use Rattle.listing.specs.declared.report.Report.the-variants.{Changed, Same, Refused, Absent}
 use Rattle.listing.specs.declared.listing.Listed.{Listed}
@@ -40,7 +42,7 @@ listedOf text room = cond (leb (length text) room) (listed.Text (length text)) (
 -- these are the length and the counts of a delta that lies at the start of s
 pub record Counted (counts : Counts) (s : Bytes) : Type 0 where
   pub within : counts .len ≤ length s
-  pub short : counts .len ≤ 33_554_432
+  pub short : counts .len ≤ limit Delta
   pub are : counts ≡ countsOf (take (counts .len) s)
 
 abbrev pub lenOf : Report → ℕ

@@ -6,6 +6,8 @@ ghost use mathlib.Core.Path.{_≡_};
 ghost use Prim.Native.Nat.{_+_, _^_, _<_, _≤_};
 ghost use lib.ListN.{length};
 ghost use Rattle.field.specs.Cells.{cells};
+ghost use Rattle.field.specs.declared.tag.Form.the-variants.{Delta};
+ghost use Rattle.payload.specs.Limit.{limit};
 ghost use Rattle.listing.specs.Text.{hexDigit};
 ghost use Rattle.listing.specs.Listing.{mark, hex, hexes, lineOf, linesOf};
 ghost use Rattle.listing.specs.Put.{Puts};
@@ -37,7 +39,7 @@ fn put_hex(x: u8, out: &mut [u8], i: usize) -> usize
 
 // Each byte at i, after a space, in hex.
 fn put_hexes(s: &[u8], out: &mut [u8], i: usize) -> usize
-    requires { ⌜ (length (now s) ≤ 33554432) × (i < 2 ^ 62) ⌝ }
+    requires { ⌜ (length (now s) ≤ limit Delta) × (i < 2 ^ 62) ⌝ }
     ensures { λ r. ⌜ Puts (now (out .entry)) i (hexes (now (s .entry))) (now (out .exit)) r ⌝ }
 {
     let mut k = 0;
@@ -51,7 +53,7 @@ fn put_hexes(s: &[u8], out: &mut [u8], i: usize) -> usize
 
 // The line of a field at i.
 fn put_line(tag: u8, body: &[u8], out: &mut [u8], i: usize) -> usize
-    requires { ⌜ (length (now body) ≤ 33554432) × (i < 2 ^ 61) ⌝ }
+    requires { ⌜ (length (now body) ≤ limit Delta) × (i < 2 ^ 61) ⌝ }
     ensures { λ r. ⌜ Puts (now (out .entry)) i (lineOf (record { tag = tag; body = now (body .entry) })) (now (out .exit)) r ⌝ }
 {
     let marked = put_text(&[mark_of(tag)], out, i);
@@ -62,7 +64,7 @@ fn put_line(tag: u8, body: &[u8], out: &mut [u8], i: usize) -> usize
 
 // The line of each field at i.
 pub fn put_lines(delta: &[u8], out: &mut [u8], i: usize) -> usize
-    requires { ⌜ (length (now delta) ≤ 33554432) × (i < 1024) ⌝ }
+    requires { ⌜ (length (now delta) ≤ limit Delta) × (i < 1024) ⌝ }
     ensures { λ r. ⌜ Puts (now (out .entry)) i (linesOf (cells (now (delta .entry)))) (now (out .exit)) r ⌝ }
 {
     let mut at = 0;
