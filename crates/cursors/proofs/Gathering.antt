@@ -344,18 +344,4 @@ module _ (s : Bytes) (at ends f : List ℕ) (p : ℕ) (k : Key) (held : Held) (i
 
 pub ruleset taking = (take-key, take-stands, take-inside, take-none, take-act, take-next, take-some)
 
--- ---- advance
-
-module _ (s : Bytes) (at ends f : List ℕ) (p next : ℕ) (a : Advances s at ends f p next) where
-  pub advance-stands : Stands s next (getD ends p 0)
-  advance-stands = a .stands
-
-  pub advance-blocks : Blocks f
-  advance-blocks = a .blocks
-
-pub advance-done : (s : Bytes) (ends f g : List ℕ) (p next v : ℕ) → Fronts s next (getD ends p 0) v → Settled f g p v → Advanced s ends f g p next
-advance-done s ends f g p next v h y = record { front = v; is = h; settled = y }
-
-pub ruleset advancing = (advance-stands, advance-blocks, advance-done)
-
 pub ruleset gathering = (gather-start, gather-blocks, gather-takes, gather-again, gather-done, gather-fronted)

@@ -79,6 +79,3 @@ module _ (s : Bytes) (at ends : List ℕ) where
   pub runs-nil : (r n : ℕ) → n ≤ r → runsN s at ends r (n - r) ≡ []
   unfolding runsN
   runs-nil r n h = let d : n - r ≡ 0 = omega arith in rw d
-
-  pub one-stands : (n r : ℕ) → Within s at ends n → r < n → Stands s (getD at r 0) (getD ends r 0)
-  one-stands n r w h = w .each r h

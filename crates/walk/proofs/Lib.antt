@@ -3,6 +3,6 @@ pub mod Walking
 pub mod Skipping
 pub mod Seeking
 pub mod Lengths
-pub mod Originals
+pub mod OriginTurns
 pub mod Passing
 pub mod Fitting

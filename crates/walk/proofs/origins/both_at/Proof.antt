@@ -1,5 +1,5 @@
 use borrow.Author.Needs.{needs}
-use Rattle.walk.proofs.Originals.{both}
+use Rattle.walk.proofs.OriginTurns.{both}
 use Rattle.walk.proofs.origins.both_at.Statement.{statement}
 use Rattle.walk.proofs.origins.both_at.Tie as tie
 

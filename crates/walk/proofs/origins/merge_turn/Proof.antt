@@ -1,5 +1,5 @@
 use borrow.Author.Needs.{needs}
-use Rattle.walk.proofs.Originals.{turning}
+use Rattle.walk.proofs.OriginTurns.{turning}
 use Rattle.walk.proofs.origins.merge_turn.Statement.{statement}
 use Rattle.walk.proofs.origins.merge_turn.Tie as tie
 

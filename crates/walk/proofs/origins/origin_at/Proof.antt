@@ -1,5 +1,5 @@
 use borrow.Author.Needs.{needs}
-use Rattle.walk.proofs.Originals.{origins-at}
+use Rattle.walk.proofs.OriginTurns.{origins-at}
 use Rattle.walk.proofs.origins.origin_at.Statement.{statement}
 use Rattle.walk.proofs.origins.origin_at.Tie as tie
 

@@ -1,5 +1,5 @@
 use borrow.Author.Needs.{needs}
-use Rattle.walk.proofs.Originals.{comparing}
+use Rattle.walk.proofs.OriginTurns.{comparing}
 use Rattle.walk.proofs.origins.origin_compare.Statement.{statement}
 use Rattle.walk.proofs.origins.origin_compare.Tie as tie
 

@@ -1,5 +1,5 @@
 use borrow.Author.Needs.{needs}
-use Rattle.walk.proofs.Originals.{turns}
+use Rattle.walk.proofs.OriginTurns.{turns}
 use Rattle.walk.proofs.origins.origin_turn.Statement.{statement}
 use Rattle.walk.proofs.origins.origin_turn.Tie as tie
 

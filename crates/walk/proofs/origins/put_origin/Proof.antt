@@ -1,5 +1,5 @@
 use borrow.Author.Needs.{needs}
-use Rattle.walk.proofs.Originals.{putting}
+use Rattle.walk.proofs.OriginTurns.{putting}
 use Rattle.walk.proofs.origins.put_origin.Statement.{statement}
 use Rattle.walk.proofs.origins.put_origin.Tie as tie
 

@@ -1,5 +1,5 @@
 use borrow.Author.Needs.{needs}
-use Rattle.walk.proofs.Originals.{Merged, merging}
+use Rattle.walk.proofs.OriginTurns.{Merged, merging}
 use Prim.Native.Nat.{_-_, _+_}
 use lib.ListN.{length}
 use Rattle.walk.proofs.origins.put_origins.Statement.{statement}

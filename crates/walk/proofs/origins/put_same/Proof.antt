@@ -1,5 +1,5 @@
 use borrow.Author.Needs.{needs}
-use Rattle.walk.proofs.Originals.{same}
+use Rattle.walk.proofs.OriginTurns.{same}
 use Rattle.walk.proofs.origins.put_same.Statement.{statement}
 use Rattle.walk.proofs.origins.put_same.Tie as tie
 
