@@ -24,10 +24,10 @@ pub fn head(list: &str, agreed: usize, k6: usize) -> String {
     let but = if k6 > 0 { format!(";\n# K6, met {k6} times, is the one difference") } else { String::new() };
     format!(
         "\
-# {cases} cases; the oracle's answers are the file stdout. Written by oracle/src/bin/vectors from seed {SEED}, never from what
-# the program writes: each answer is that of the model of document 01 (oracle/src/model.rs), and the Rust, compiled
+# {cases} cases; the oracle's answers are the file answers. Written by oracle/src/bin/vectors from seed {SEED}, never from what
+# the library says: each answer is that of the model of document 01 (oracle/src/model.rs), and the Rust, compiled
 # unchanged, agrees on all {agreed} calls that it has an answer to{but}.
-# Lines and bytes are written as in crates/examples/data/cases and crates/examples/data/runs.
+# Lines and bytes are written as in lists/examples/cases and lists/examples/runs.
 "
     )
 }
