@@ -22,9 +22,10 @@ fn main() -> ExitCode {
     };
     let (mut judge, mut answers) = (judge::Judge::default(), String::new());
     let lists = [list::cases(), list::runs()].map(|list| {
-        let (agreed, k6) = (judge.agreed, judge.k6);
+        let (agreed, k6, raised) = (judge.agreed, judge.k6, judge.raised);
         answers += &play(&list, check_by_model, |call| judge.run(call));
-        list::head(&list, judge.agreed - agreed, judge.k6 - k6) + &list
+        let known = [("K6", judge.k6 - k6), ("E5's expire", judge.raised - raised)];
+        list::head(&list, judge.agreed - agreed, &known) + &list
     });
     judge.met_all();
     fs::create_dir_all(&folder).expect("the folder can be made");
