@@ -602,11 +602,6 @@ static void history(struct input *in)
     }
 }
 
-static uint32_t within(uint32_t x, uint32_t least, uint32_t most)
-{
-    return x < least ? least : x > most ? most : x;
-}
-
 int LLVMFuzzerTestOneInput(const uint8_t *data, size_t size)
 {
     struct input in = {data, data + size};
@@ -625,8 +620,8 @@ int LLVMFuzzerTestOneInput(const uint8_t *data, size_t size)
     case 3: {
         uint32_t refresh = u32(&in), retry = u32(&in), expire = u32(&in);
         taplevung_timing_values t = taplevung_timing(refresh, retry, expire);
-        LAW(t.refresh == within(refresh, 1, 86400) && t.retry == within(retry, 1, 7200));
-        LAW(t.expire == within(expire, 600, 172800));
+        taplevung_timing_values rule = timing_of(refresh, retry, expire);
+        LAW(t.refresh == rule.refresh && t.retry == rule.retry && t.expire == rule.expire);
         break;
     }
     default:

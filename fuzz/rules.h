@@ -1,6 +1,6 @@
 /*
  * Document 01's rules once more, in C: what is good, what a well-formed history is, difference,
- * merge and application. The library is held to these.
+ * merge, application and the times. The library is held to these.
  */
 #ifndef RULES_H
 #define RULES_H
@@ -279,6 +279,23 @@ static int well_formed(const taplevung_state *s, const uint8_t *snapshots, size_
         if (check(DELTA, deltas, s->deltas[i]).number != 0)
             return 0;
     return 1;
+}
+
+/*------------ Times --------------------------------------------------------*/
+
+static uint32_t within(uint32_t x, uint32_t least, uint32_t most)
+{
+    return x < least ? least : x > most ? most : x;
+}
+
+static taplevung_timing_values timing_of(uint32_t refresh, uint32_t retry, uint32_t expire)
+{
+    taplevung_timing_values t = {within(refresh, 1, 86400), within(retry, 1, 7200), within(expire, 600, 172800)};
+    if (t.expire <= t.refresh)
+        t.expire = t.refresh + 1;
+    if (t.expire <= t.retry)
+        t.expire = t.retry + 1;
+    return t;
 }
 
 #endif

@@ -223,8 +223,9 @@ taplevung_notice taplevung_notify(taplevung_state state);
 bool taplevung_ready(taplevung_state state);
 
 /*
- * Brings each interval, alone, into the range of RFC 8210: refresh 1 to 86,400, retry 1
- * to 7,200, expire 600 to 172,800. Never refuses.
+ * Brings each interval into the range of RFC 8210: refresh 1 to 86,400, retry 1 to 7,200,
+ * expire 600 to 172,800. An expire that is then not larger than both others becomes the
+ * larger of them plus 1. Never refuses.
  */
 taplevung_timing_values taplevung_timing(uint32_t refresh, uint32_t retry, uint32_t expire);
 

@@ -62,8 +62,10 @@ struct Run {
     damages: BTreeMap<&'static str, u64>,
     /// Answers that were compared with the Rust's too.
     rust: u64,
-    /// Times that the Rust served n = 1 at distance 2^31, the one known difference (K6).
+    /// Times that the Rust served n = 1 at distance 2^31, a known difference (K6).
     known: u64,
+    /// Times that the Rust left an expire that is not larger than refresh and retry, a known difference (E5).
+    raised: u64,
 }
 
 impl Run {
@@ -79,6 +81,7 @@ impl Run {
             damages: BTreeMap::new(),
             rust: 0,
             known: 0,
+            raised: 0,
         }
     }
 
@@ -116,11 +119,12 @@ impl Run {
     fn summary(&self) -> String {
         let kinds: Vec<String> = self.kinds.iter().map(|(k, n)| format!("{k} {n}")).collect();
         format!(
-            "all equal: {} calls ({}), {} of them with the Rust too, K6 met {} times, seed {}",
+            "all equal: {} calls ({}), {} of them with the Rust too, K6 met {} times, E5 {} times, seed {}",
             self.calls(),
             kinds.join(", "),
             self.rust,
             self.known,
+            self.raised,
             self.seed
         )
     }
@@ -462,10 +466,18 @@ impl Run {
             let edge = *rng.pick(&[0, 1, 600, 7_200, 86_400, 172_800, u32::MAX]);
             edge.wrapping_add(rng.below(3) as u32).wrapping_sub(1)
         };
-        let [refresh, retry, expire] = [near(rng), near(rng), near(rng)];
-        let call = Call::timing(refresh, retry, expire);
-        let times = self.compare(&call)?.numbers;
-        self.with_rust(rust_timing(retry, expire, times), &call)
+        let asked = [near(rng), near(rng), near(rng)];
+        let call = Call::timing(asked[0], asked[1], asked[2]);
+        let [refresh, retry, expire] = self.compare(&call)?.numbers;
+        let larger = refresh.max(retry);
+        match rust_timing(asked[1], asked[2]) {
+            // it clamps each alone (E5)
+            Some(said) if said[1] <= larger && [retry, expire] == [said[0], larger + 1] => {
+                self.raised += 1;
+                Ok(())
+            }
+            said => self.with_rust(said.map(|said| said == [retry, expire]), &call),
+        }
     }
 
     /// Inputs and stores at their limits and one byte over, alone and beside other faults. Once a run, for
@@ -573,8 +585,8 @@ impl Run {
         for name in DAMAGES.iter().map(|(name, _)| name).chain(ILL) {
             enough(format!("\"{name}\""), self.damages.get(name), 100)?;
         }
-        if cfg!(routinator) && self.known == 0 {
-            return Err("too few cases: K6 was not met".into());
+        if cfg!(routinator) && (self.known == 0 || self.raised == 0) {
+            return Err("too few cases: K6 or E5 was not met".into());
         }
         Ok(())
     }
@@ -664,12 +676,13 @@ impl RustHistory {
     }
 }
 
+/// The Rust's retry and expire.
 #[cfg(routinator)]
-fn rust_timing(retry: u32, expire: u32, times: [u64; 3]) -> Option<bool> {
-    let (_, by_rust, expires) = oracle::rust::timing(retry, expire);
-    Some([u64::from(by_rust), u64::from(expires)] == times[1..])
+fn rust_timing(retry: u32, expire: u32) -> Option<[u64; 2]> {
+    let (_, retry, expire) = oracle::rust::timing(retry, expire);
+    Some([retry.into(), expire.into()])
 }
 #[cfg(not(routinator))]
-fn rust_timing(_: u32, _: u32, _: [u64; 3]) -> Option<bool> {
+fn rust_timing(_: u32, _: u32) -> Option<[u64; 2]> {
     None
 }

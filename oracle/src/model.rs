@@ -261,8 +261,14 @@ impl History {
     }
 }
 
+/// The times clamped, and then an expire that is not larger than both others made so.
 pub fn timing(refresh: u32, retry: u32, expire: u32) -> (u32, u32, u32) {
-    (refresh.clamp(1, 86_400), retry.clamp(1, 7_200), expire.clamp(600, 172_800))
+    let (refresh, retry) = (refresh.clamp(1, 86_400), retry.clamp(1, 7_200));
+    let expire = expire.clamp(600, 172_800);
+    if expire > refresh && expire > retry {
+        return (refresh, retry, expire);
+    }
+    (refresh, retry, refresh.max(retry) + 1)
 }
 
 //------------ The entries ---------------------------------------------------

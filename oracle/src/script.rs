@@ -1,8 +1,8 @@
-//! The form of the lists that the programs `examples` and `replay` read, and of what they must write.
+//! The form of the lists of calls in `lists/`, and of their answers.
 //!
 //! One call to a line: what is called, a name, then its numbers in decimal and its bytes in hexadecimal, as
-//! the head of `crates/examples/data/runs` says. [`play`] runs such a list by any function of calls, and
-//! writes the answers in the words of `crates/script`.
+//! the heads of `lists/examples/cases` and `lists/examples/runs` say. [`play`] runs such a list by any function
+//! of calls: the model, the model with the Rust beside it, or the library (`lists/src/main.rs`).
 use std::fmt::Write;
 
 use crate::call::{Answer, Call, Entry, Outcome, State};
@@ -14,17 +14,21 @@ const MARK: u8 = 0xA5;
 /// How long the stores and the output are in all.
 const SIZE: usize = 65_536;
 
-/// How long a list may be.
-pub const LIST: usize = 262_144;
-
 /// Bytes longer than this are written as their length and sum.
 const SHOWN: usize = 1024;
 
-/// The answers to a list of lines, a line each. `run` answers a call.
-pub fn play(list: &str, run: impl FnMut(&Call) -> Outcome) -> String {
-    assert!(list.len() <= LIST, "a list is too long for the program");
+/// Refusal 1 or 2 of bytes, or none.
+pub type Check = fn(Form, &[u8]) -> Result<(), Refused>;
+
+/// By the model.
+pub fn check_by_model(form: Form, bytes: &[u8]) -> Result<(), Refused> {
+    model::check(form, bytes, 1).map(|_| ())
+}
+
+/// The answers to a list of lines, a line each. `check` says whether bytes are good, `run` answers a call.
+pub fn play(list: &str, check: Check, run: impl FnMut(&Call) -> Outcome) -> String {
     let stores = [(); 2].map(|_| Store::holding(0, b""));
-    let mut player = Player { run, state: State::ZERO, stores };
+    let mut player = Player { check, run, state: State::ZERO, stores };
     let lines = list.lines().filter(|line| !line.is_empty() && !line.starts_with('#'));
     lines.map(|line| player.line(&Line(line.split(' ').collect()))).collect()
 }
@@ -126,6 +130,7 @@ impl Store {
 
 /// The history and the stores that the lines so far left.
 struct Player<F> {
+    check: Check,
     run: F,
     state: State,
     stores: [Store; 2],
@@ -134,8 +139,8 @@ struct Player<F> {
 impl<F: FnMut(&Call) -> Outcome> Player<F> {
     fn line(&mut self, line: &Line<'_>) -> String {
         let answer = match line.0[0] {
-            "snapshot" => verdict(Form::Snapshot, &line.bytes(1)),
-            "delta" => verdict(Form::Delta, &line.bytes(1)),
+            "snapshot" => verdict((self.check)(Form::Snapshot, &line.bytes(1))),
+            "delta" => verdict((self.check)(Form::Delta, &line.bytes(1))),
             "construct" | "merge" | "apply" => self.entry(line),
             "timing" => self.timing(line),
             "create" => self.create(line),
@@ -321,9 +326,9 @@ fn refused(answer: &Answer) -> String {
     format!(" refused {} argument {} at {}", answer.number, answer.argument, answer.offset)
 }
 
-fn verdict(form: Form, bytes: &[u8]) -> String {
-    match model::check(form, bytes, 1) {
-        Ok(_) => " fine".into(),
+fn verdict(said: Result<(), Refused>) -> String {
+    match said {
+        Ok(()) => " fine".into(),
         Err(Refused(number, _, offset)) => format!(" {number} at {offset}"),
     }
 }

@@ -1,16 +1,17 @@
-//! What the programs `examples` and `replay` must write is what the model of document 01 answers to their lists.
+//! The recorded answers to the lists are what the model of document 01 answers to them.
 use std::fs;
 
 use oracle::{model, script};
 
-/// The answers that the program must write, once the model has said the same.
-fn by_model(program: &str) -> String {
+/// The recorded answers, once the model has said the same.
+fn by_model(folder: &str) -> String {
     let read = |name: &str| {
-        let path = format!("{}/../crates/{program}/{name}", env!("CARGO_MANIFEST_DIR"));
-        fs::read_to_string(path).expect("a file of the program")
+        let path = format!("{}/../lists/{folder}/{name}", env!("CARGO_MANIFEST_DIR"));
+        fs::read_to_string(path).expect("a file of the lists")
     };
-    let said = ["data/cases", "data/runs"].map(|list| script::play(&read(list), model::run)).concat();
-    let want = read("stdout");
+    let play = |list| script::play(&read(list), script::check_by_model, model::run);
+    let said = ["cases", "runs"].map(play).concat();
+    let want = read("answers");
     said.lines().zip(want.lines()).for_each(|(said, want)| assert_eq!(said, want));
     assert_eq!(said, want);
     want

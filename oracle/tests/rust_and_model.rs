@@ -85,7 +85,7 @@ fn k1_to_k7_serving() {
 }
 
 #[test]
-fn k6_is_the_one_difference() {
+fn k6_differs() {
     let (history, snapshots) = history(0, 1);
     let served = history.since(2_147_483_649).expect("the Rust serves it");
     assert_eq!((served.bytes, served.serial), (vec![], 2_147_483_649));
@@ -113,6 +113,15 @@ fn k8_to_k10_merging() {
 fn k11_timing() {
     assert_eq!(rust::timing(0, 0), (1, 1, 600));
     assert_eq!(model::timing(0, 0, 0), (1, 1, 600));
+}
+
+#[test]
+fn e5_expire_differs() {
+    assert_eq!(rust::timing(599, 0), (1, 599, 600));
+    assert_eq!(model::timing(0, 599, 0), (1, 599, 600));
+    assert_eq!(rust::timing(600, 0), (1, 600, 600));
+    assert_eq!(model::timing(0, 600, 0), (1, 600, 601));
+    assert_eq!(model::timing(86_400, 7_200, 600), (86_400, 7_200, 86_401));
 }
 
 #[test]

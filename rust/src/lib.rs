@@ -146,13 +146,15 @@ pub fn apply(snapshot: &[u8], delta: &[u8], out: &mut [u8]) -> Result<usize, Ref
     Ok(answer.length as usize)
 }
 
-/// Brings each interval, alone, into the range of RFC 8210: refresh 1 to 86,400, retry 1 to 7,200,
-/// expire 600 to 172,800.
+/// Brings each interval into the range of RFC 8210: refresh 1 to 86,400, retry 1 to 7,200, expire 600 to
+/// 172,800. An expire that is then not larger than both others becomes the larger of them plus 1.
 ///
 /// ```
 /// use taplevung::{timing, Timing};
 /// let least = timing(Timing { refresh: 0, retry: 0, expire: 0 });
 /// assert_eq!(least, Timing { refresh: 1, retry: 1, expire: 600 });
+/// let raised = timing(Timing { refresh: 86_400, retry: 7_200, expire: 600 });
+/// assert_eq!(raised.expire, 86_401);
 /// ```
 pub fn timing(asked: Timing) -> Timing {
     raw::timing(asked.refresh, asked.retry, asked.expire)

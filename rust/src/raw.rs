@@ -249,7 +249,7 @@ pub fn ready(state: State) -> bool {
     unsafe { c::taplevung_ready(state) }
 }
 
-/// `taplevung_timing`: each interval, alone, brought into its range.
+/// `taplevung_timing`: each interval brought into its range, and expire above the two others.
 pub fn timing(refresh: u32, retry: u32, expire: u32) -> Timing {
     // SAFETY: plain numbers.
     unsafe { c::taplevung_timing(refresh, retry, expire) }

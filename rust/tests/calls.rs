@@ -109,4 +109,9 @@ fn a_history() {
 fn intervals() {
     let most = timing(Timing { refresh: u32::MAX, retry: u32::MAX, expire: u32::MAX });
     assert_eq!(most, Timing { refresh: 86_400, retry: 7_200, expire: 172_800 });
+    for (retry, expire, given) in
+        [(7_200, 600, 7_201), (7_200, 7_200, 7_201), (7_200, 7_201, 7_201), (599, 0, 600)]
+    {
+        assert_eq!(timing(Timing { refresh: 1, retry, expire }), Timing { refresh: 1, retry, expire: given });
+    }
 }

@@ -2,8 +2,10 @@
 use mathlib.Core.Path.{_≡_, refl}
 use mathlib.Core.List.{List, [], _∷_}
 use mathlib.Core.Option.{none, some}
-use mathlib.Core.Bool.{false}
+use mathlib.Core.Bool.{Bool, true, false}
 use Prim.Native.Nat.{ℕ}
+use lib.Dec.{eqb}
+use lib.ListN.{getD}
 use Rattle.order.specs.Comparison.{bytes}
 use Rattle.order.specs.Map.{Item}
 use Rattle.order.specs.Walk.{walk}
@@ -11,6 +13,8 @@ use Rattle.change.specs.Change.{Change, announce, withdraw, update}
 use Rattle.change.specs.Difference.{Delta, diff}
 use Rattle.change.specs.Merge.{table, merge, mergeAll}
 use Rattle.change.specs.Application.{fits, apply}
+use Rattle.change.specs.Grouping.{Grouping, alone, grouped, leaves, mergeTree}
+use Rattle.change.specs.Balance.{ofKind, brought, taken}
 
 abbrev B : Type 0
 B = List ℕ
@@ -117,3 +121,52 @@ nothing-to-withdraw = refl
 
 pub nothing-to-update : fits bytes none (update p q) ≡ false
 nothing-to-update = refl
+
+-- the same as groupings of one list of deltas
+abbrev announced-first : Grouping (Delta B B)
+announced-first = grouped (grouped (alone (origin (announce []))) (alone (origin (withdraw [])))) (alone (origin (withdraw [])))
+
+abbrev withdrawn-first : Grouping (Delta B B)
+withdrawn-first = grouped (alone (origin (announce []))) (grouped (alone (origin (withdraw []))) (alone (origin (withdraw []))))
+
+pub same-leaves : leaves announced-first ≡ leaves withdrawn-first
+same-leaves = refl
+
+pub off-chain-left : mergeTree M announced-first ≡ origin (withdraw [])
+unfolding walk
+off-chain-left = refl
+
+pub off-chain-right : mergeTree M withdrawn-first ≡ []
+unfolding walk
+off-chain-right = refl
+
+-- an update to the providers that are held can be applied and changes nothing: a delta that is longer than the difference
+pub idle-fits : fits bytes (some p) (update p p) ≡ true
+idle-fits = refl
+
+pub idle-yields : apply bytes (aspa p) (aspa (update p p)) ≡ aspa p
+unfolding walk
+idle-yields = refl
+
+pub idle-longer : diff bytes bytes (aspa p) (aspa p) ≡ []
+unfolding walk
+idle-longer = refl
+
+-- keys of ASPAs: one announced is one brought, one withdrawn is one taken, an update is neither
+abbrev isAspa : B → Bool
+isAspa k = eqb (getD k 0 0) 3
+
+pub aspa-held : ofKind isAspa (aspa p) ≡ 1
+aspa-held = refl
+
+pub aspa-brought : brought isAspa (aspa (announce p)) ≡ 1
+aspa-brought = refl
+
+pub aspa-taken : taken isAspa (aspa (withdraw p)) ≡ 1
+aspa-taken = refl
+
+pub aspa-updated : brought isAspa (aspa (update p q)) ≡ 0
+aspa-updated = refl
+
+pub origin-brought : brought isAspa (origin (announce [])) ≡ 0
+origin-brought = refl

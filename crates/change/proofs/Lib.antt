@@ -4,3 +4,6 @@ pub mod Chain
 pub mod Items
 pub mod History
 pub mod Examples
+pub mod Short
+pub mod Grouping
+pub mod Balance

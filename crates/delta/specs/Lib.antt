@@ -1,3 +1,4 @@
 pub mod Refusal
 pub mod Admission
 pub mod Answer
+pub mod Shortest

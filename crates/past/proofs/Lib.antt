@@ -7,3 +7,4 @@ pub mod Queries
 pub mod Runs
 pub mod Marked
 pub mod Examples
+pub mod Shortest

@@ -7,3 +7,4 @@ pub mod Full
 pub mod Run
 pub mod Promise
 pub mod Marked
+pub mod Shortest

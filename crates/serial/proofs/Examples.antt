@@ -57,6 +57,22 @@ low-bounds = (refl, refl, refl)
 pub high-bounds : (timingOf (values 86400 7200 172800) ≡ values 86400 7200 172800) × (timingOf (values 86399 7199 172799) ≡ values 86399 7199 172799) × (timingOf (values 86401 7201 172801) ≡ values 86400 7200 172800)
 high-bounds = (refl, refl, refl)
 
--- each value is clamped alone
-pub each-alone : timingOf (values 0 8000 1000) ≡ values 1 7200 1000
+-- refresh and retry are clamped alone
+pub each-alone : timingOf (values 0 8000 10000) ≡ values 1 7200 10000
 each-alone = refl
+
+-- the request's own example, at the bounds and past them
+pub expire-raised : (timingOf (values 86400 7200 600) ≡ values 86400 7200 86401) × (timingOf (values 100000 9000 0) ≡ values 86400 7200 86401)
+expire-raised = (refl, refl)
+
+-- expire one below refresh, equal to it, one above it
+pub around-refresh : (timingOf (values 1000 1 999) ≡ values 1000 1 1001) × (timingOf (values 1000 1 1000) ≡ values 1000 1 1001) × (timingOf (values 1000 1 1001) ≡ values 1000 1 1001)
+around-refresh = (refl, refl, refl)
+
+-- the same where retry is the larger one
+pub around-retry : (timingOf (values 1 7200 7199) ≡ values 1 7200 7201) × (timingOf (values 1 7200 7200) ≡ values 1 7200 7201) × (timingOf (values 1 7200 7201) ≡ values 1 7200 7201)
+around-retry = (refl, refl, refl)
+
+-- at the lowest expire
+pub lowest-expire : (timingOf (values 599 599 0) ≡ values 599 599 600) × (timingOf (values 600 1 0) ≡ values 600 1 601) × (timingOf (values 1 600 600) ≡ values 1 600 601)
+lowest-expire = (refl, refl, refl)

@@ -1,5 +1,5 @@
 -- The timing values, in seconds.
-use Prim.Native.Nat.{ℕ, min, max}
+use Prim.Native.Nat.{ℕ, _+_, min, max}
 use Rattle.serial.specs.declared.timing.Timing.{Timing}
 
 -- refresh is clamped to 1..86,400
@@ -27,10 +27,16 @@ expireHigh = 172800
 abbrev pub clampOf : ℕ → ℕ → ℕ → ℕ
 clampOf low high x = max low (min high x)
 
--- the three values, each clamped alone
+-- an expire that is not larger than both refresh and retry becomes the larger of the two, plus 1
+abbrev pub expireOf : (refresh retry expire : ℕ) → ℕ
+expireOf refresh retry expire = max expire (max refresh retry + 1)
+
+-- the three values, each clamped alone; then expire larger than the two others
 abbrev pub timingOf : Timing → Timing
-timingOf t = record {
-  refresh = clampOf refreshLow refreshHigh (t .refresh);
-  retry = clampOf retryLow retryHigh (t .retry);
-  expire = clampOf expireLow expireHigh (t .expire);
-}
+timingOf t = let refresh : ℕ = clampOf refreshLow refreshHigh (t .refresh) in
+    let retry : ℕ = clampOf retryLow retryHigh (t .retry) in
+    record {
+      refresh = refresh;
+      retry = retry;
+      expire = expireOf refresh retry (clampOf expireLow expireHigh (t .expire));
+    }

@@ -12,8 +12,10 @@ pub struct Judge {
     beside: Option<Beside>,
     /// Calls on which the Rust agreed.
     pub agreed: usize,
-    /// Times that the Rust served n = 1 at distance 2^31, the one known difference.
+    /// Times that the Rust served n = 1 at distance 2^31, a known difference.
     pub k6: usize,
+    /// Times that the Rust left an expire that is not larger than refresh and retry, a known difference.
+    pub raised: usize,
     /// Refusals: the entry, the number, the argument.
     refusals: BTreeSet<(Entry, u32, u32)>,
     /// Entries that were lent exactly the room that they needed.
@@ -62,10 +64,7 @@ impl Judge {
             Entry::Update => self.update(call, &outcome),
             Entry::Query => self.query(call, &outcome),
             Entry::Full | Entry::Notify | Entry::Ready => self.full(call, &outcome),
-            Entry::Timing => {
-                let (_, retry, expire) = rust::timing(call.numbers[1] as u32, call.numbers[2] as u32);
-                self.same(outcome.numbers[1..] == [u64::from(retry), u64::from(expire)], call);
-            }
+            Entry::Timing => self.timing(call, &outcome),
         }
         outcome
     }
@@ -73,6 +72,18 @@ impl Judge {
     fn same(&mut self, same: bool, call: &Call) {
         assert!(same, "the Rust says otherwise on\n{call}");
         self.agreed += 1;
+    }
+
+    /// The Rust clamps each alone (E5).
+    fn timing(&mut self, call: &Call, outcome: &Outcome) {
+        let (_, retry, expire) = rust::timing(call.numbers[1] as u32, call.numbers[2] as u32);
+        let said = [u64::from(retry), u64::from(expire)];
+        let larger = outcome.numbers[0].max(outcome.numbers[1]);
+        if said[1] <= larger && outcome.numbers[1..] == [said[0], larger + 1] {
+            self.raised += 1;
+            return;
+        }
+        self.same(outcome.numbers[1..] == said, call);
     }
 
     //------------ The Rust's history ----------------------------------------
@@ -217,6 +228,7 @@ impl Judge {
         }
         assert_eq!(self.edges.len(), 2, "not met: the wrap or the middle of the serials");
         assert!(self.k6 > 0, "not met: K6");
+        assert!(self.raised > 0, "not met: E5");
     }
 }
 

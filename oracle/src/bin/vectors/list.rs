@@ -16,18 +16,25 @@ const SIZE: usize = 4096;
 /// How many deltas are kept where a history is filled.
 pub const KEEPS: &[u32] = &[1, 2, 3, 4, 5, 6, 7, 8, 15, 16, 17, 31, 32, 33, 62, 63, 64];
 
-/// What stands above a list: how it was made. The Rust agreed on so many calls, and so many were K6.
-pub fn head(list: &str, agreed: usize, k6: usize) -> String {
+/// What stands above a list: how it was made. The Rust agreed on so many calls, and so often each known
+/// difference was met.
+pub fn head(list: &str, agreed: usize, known: &[(&str, usize)]) -> String {
     let count = |word: &str| list.lines().filter(|line| line.starts_with(word)).count();
     let lines = list.lines().filter(|line| !line.is_empty()).count() - count("#");
     let cases = lines - count("hold ") - count("state ");
-    let but = if k6 > 0 { format!(";\n# K6, met {k6} times, is the one difference") } else { String::new() };
+    let met = known.iter().filter(|(_, times)| *times > 0);
+    let met: Vec<String> = met.map(|(what, times)| format!("{what}, met {times} times,")).collect();
+    let but = match &met[..] {
+        [] => String::new(),
+        [one] => format!(";\n# {one} is the one difference"),
+        more => format!(";\n# {} are the differences", more.join(" and ")),
+    };
     format!(
         "\
-# {cases} cases; the oracle's answers are the file stdout. Written by oracle/src/bin/vectors from seed {SEED}, never from what
-# the program writes: each answer is that of the model of document 01 (oracle/src/model.rs), and the Rust, compiled
+# {cases} cases; the oracle's answers are the file answers. Written by oracle/src/bin/vectors from seed {SEED}, never from what
+# the library says: each answer is that of the model of document 01 (oracle/src/model.rs), and the Rust, compiled
 # unchanged, agrees on all {agreed} calls that it has an answer to{but}.
-# Lines and bytes are written as in crates/examples/data/cases and crates/examples/data/runs.
+# Lines and bytes are written as in lists/examples/cases and lists/examples/runs.
 "
     )
 }

@@ -1,6 +1,6 @@
-//! Writes a fixed list of calls with the oracle's answers, for a program to replay where no Rust is at hand.
+//! Writes a fixed list of calls with the oracle's answers, to be replayed where no Rust is at hand.
 //!
-//! usage: vectors DIR, which writes DIR/data/cases, DIR/data/runs and DIR/stdout
+//! usage: vectors DIR, which writes DIR/cases, DIR/runs and DIR/answers
 //!
 //! The head of each list says how it was made. Every answer is that of the model of document 01; each that
 //! the Rust has an answer to is put to the Rust as well, and nothing is written unless the two agree.
@@ -13,7 +13,7 @@ mod list;
 
 #[cfg(routinator)]
 fn main() -> ExitCode {
-    use oracle::script::play;
+    use oracle::script::{check_by_model, play};
     use std::{fs, path::PathBuf};
 
     let Some(folder) = std::env::args_os().nth(1).map(PathBuf::from) else {
@@ -22,13 +22,14 @@ fn main() -> ExitCode {
     };
     let (mut judge, mut answers) = (judge::Judge::default(), String::new());
     let lists = [list::cases(), list::runs()].map(|list| {
-        let (agreed, k6) = (judge.agreed, judge.k6);
-        answers += &play(&list, |call| judge.run(call));
-        list::head(&list, judge.agreed - agreed, judge.k6 - k6) + &list
+        let (agreed, k6, raised) = (judge.agreed, judge.k6, judge.raised);
+        answers += &play(&list, check_by_model, |call| judge.run(call));
+        let known = [("K6", judge.k6 - k6), ("E5's expire", judge.raised - raised)];
+        list::head(&list, judge.agreed - agreed, &known) + &list
     });
     judge.met_all();
-    fs::create_dir_all(folder.join("data")).expect("the folder can be made");
-    for (name, text) in [("data/cases", &lists[0]), ("data/runs", &lists[1]), ("stdout", &answers)] {
+    fs::create_dir_all(&folder).expect("the folder can be made");
+    for (name, text) in [("cases", &lists[0]), ("runs", &lists[1]), ("answers", &answers)] {
         fs::write(folder.join(name), text).expect("the file can be written");
     }
     ExitCode::SUCCESS

@@ -12,8 +12,12 @@ within-requires-2 c κs = search (same-timing, needs)
 within-requires-3 : tie.Need-within-requires-3
 within-requires-3 c κs = search (same-timing, needs)
 
+above-requires : tie.Need-above-requires
+above-requires c κs = search (same-timing, needs)
+
 returns : tie.Need-returns
 returns c = search (same-timing, needs)
 
 pub clamp-spec : {M : Type 1} → statement M
-clamp-spec = tie.close (tie.spec within-requires within-requires-2 within-requires-3 returns)
+clamp-spec =
+    tie.close (tie.spec within-requires within-requires-2 within-requires-3 above-requires returns)
