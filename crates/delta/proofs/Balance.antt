@@ -29,9 +29,10 @@ use Rattle.payload.specs.Payload.{entries, items, changes}
 use Rattle.payload.proofs.Faithful.{entries-end, entries-more}
 use Rattle.payload.proofs.Known as known
 use Rattle.payload.proofs.Known.{Known}
-use Rattle.delta.specs.Shortest.{GoodSnapshot, LeadsTo, tagged, Balance}
+use Rattle.delta.specs.Demand.{GoodSnapshot}
+use Rattle.delta.specs.Shortest.{LeadsTo, tagged, Balance}
 use Rattle.delta.proofs.Differences.{good-map}
-use Rattle.delta.proofs.Leading.{good-of, leads-after, leads-fine, leads-map}
+use Rattle.delta.proofs.Leading.{leads-after, leads-fine, leads-map}
 
 -- a good field has the tag of what it says
 tag-known : (form : Form) (tag : ℕ) (b : Bytes) → Known form tag → cellFor form (entryOf form (record { tag = tag; body = b })) .tag ≡ tag
@@ -148,7 +149,7 @@ module _ (A C D : Bytes) (a : GoodSnapshot A) (l : LeadsTo A C D) where
   even-map : (k : ℕ) → ofKind (isKind k) (items C) + taken (isKind k) (changes D) ≡ ofKind (isKind k) (items A) + brought (isKind k) (changes D)
   even-map k =
       rw (leads-after A C D a l)
-      (maps.balance strings bytes (isKind k) (items A) (changes D) (good-map A (good-of A a) .sorted) (leads-map A C D a l .ascends) (leads-map A C D a l .applies))
+      (maps.balance strings bytes (isKind k) (items A) (changes D) (good-map A a .sorted) (leads-map A C D a l .ascends) (leads-map A C D a l .applies))
 
   -- of the kind k
   even : verdict Snapshot C ≡ Fine → (k : ℕ) → tagged k C + tagged (k * 16 + 2) D ≡ tagged k A + tagged (k * 16 + 1) D

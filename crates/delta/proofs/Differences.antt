@@ -24,14 +24,10 @@ use Rattle.payload.proofs.Faithful.{faithful, one-form, entries-end}
 use Rattle.walk.specs.declared.fit.Fit.the-variants.{All}
 use Rattle.walk.specs.Fit.{misfit, fitOf}
 use Rattle.delta.specs.Answer.{differenceOf, appliedOf}
+use Rattle.delta.specs.Demand.{GoodSnapshot}
 use Rattle.payload.proofs.Closed.{diff-map}
 
--- a good snapshot, as bytes
-pub record Good (s : Bytes) : Type 0 where
-  pub octets : AllBytes s
-  pub fine : verdict Snapshot s ≡ Fine
-
-pub good-map : (s : Bytes) → Good s → IsMap Snapshot (items s)
+pub good-map : (s : Bytes) → GoodSnapshot s → IsMap Snapshot (items s)
 good-map s g = faithful Snapshot .map-of s (g .fine)
 
 -- fields that all fit have no first one that does not
@@ -41,7 +37,7 @@ unfolding misfit
 fit-all A at [] h = refl
 fit-all A at (c ∷ cs) h = rw (h .0) (fit-all A (at + 3 + length (c .body)) cs (h .1))
 
-module _ (A B : Bytes) (a : Good A) (b : Good B) where
+module _ (A B : Bytes) (a : GoodSnapshot A) (b : GoodSnapshot B) where
   change-map : IsMap Delta (diff bytes bytes (items A) (items B))
   change-map = diff-map (items A) (items B) (good-map A a) (good-map B b)
 
@@ -77,6 +73,6 @@ module _ (A B : Bytes) (a : Good A) (b : Good B) where
       (nil-diff strings strings (items A) (items B) (good-map A a .sorted) (good-map B b .sorted) z)
 
 -- and a snapshot's difference to itself is empty
-pub difference-self : (A : Bytes) → Good A → differenceOf A A ≡ []
+pub difference-self : (A : Bytes) → GoodSnapshot A → differenceOf A A ≡ []
 unfolding differenceOf encode run.encode
 difference-self A a = rw (diff-nil strings strings (items A) (good-map A a .sorted))

@@ -11,12 +11,10 @@ use Rattle.payload.specs.Payload.{items, changes}
 use Rattle.payload.proofs.Faithful.{faithful}
 use Rattle.payload.proofs.Closed.{apply-map}
 use Rattle.delta.specs.Answer.{appliedOf}
-use Rattle.delta.specs.Shortest.{GoodSnapshot, LeadsTo}
-use Rattle.delta.proofs.Differences.{Good, good-map}
+use Rattle.delta.specs.Demand.{GoodSnapshot}
+use Rattle.delta.specs.Shortest.{LeadsTo}
+use Rattle.delta.proofs.Differences.{good-map}
 use Rattle.delta.proofs.Answering.{fit-applies}
-
-pub good-of : (s : Bytes) → GoodSnapshot s → Good s
-good-of s g = record { octets = g .octets; fine = g .fine }
 
 module _ (A C D : Bytes) (a : GoodSnapshot A) (l : LeadsTo A C D) where
   -- what is held afterwards, as a map
@@ -25,7 +23,7 @@ module _ (A C D : Bytes) (a : GoodSnapshot A) (l : LeadsTo A C D) where
   leads-after =
       ap items (sym (l .yields))
       ∙ faithful Snapshot .map-back (apply bytes (items A) (changes D))
-      (apply-map (items A) (changes D) (good-map A (good-of A a)) (faithful Delta .map-of D (l .fine)))
+      (apply-map (items A) (changes D) (good-map A a) (faithful Delta .map-of D (l .fine)))
 
   -- and it is good
   pub leads-fine : verdict Snapshot C ≡ Fine
@@ -33,7 +31,7 @@ module _ (A C D : Bytes) (a : GoodSnapshot A) (l : LeadsTo A C D) where
   leads-fine =
       ap (verdict Snapshot) (sym (l .yields))
       ∙ faithful Snapshot .good-bytes (apply bytes (items A) (changes D))
-      (apply-map (items A) (changes D) (good-map A (good-of A a)) (faithful Delta .map-of D (l .fine)))
+      (apply-map (items A) (changes D) (good-map A a) (faithful Delta .map-of D (l .fine)))
 
   pub leads-map : maps.LeadsTo bytes bytes (items A) (items C) (changes D)
   leads-map = record {

@@ -1,5 +1,6 @@
 pub mod Admitting
 pub mod Answering
+pub mod Numbers
 pub mod Differences
 pub mod Demand
 pub mod Leading

@@ -35,11 +35,12 @@ use Rattle.delta.specs.declared.admit.Admitted.the-variants.{Yes, No}
 use Rattle.delta.specs.declared.apply.Applied.the-variants as applied
 use Rattle.delta.specs.Admission.{andThen, admitOf}
 use Rattle.delta.specs.Answer.{differenceOf, mergedOf, appliedOf, fitRefusal, applyAdmitted, applyAnswer, applyOf}
-use Rattle.delta.specs.Shortest.{GoodSnapshot, Acceptable, LeadsTo, NoLonger, mergeInto, Shortest}
+use Rattle.delta.specs.Demand.{GoodSnapshot, Acceptable}
+use Rattle.delta.specs.Shortest.{LeadsTo, NoLonger, mergeInto, Shortest}
 use Rattle.delta.proofs.Answering.{admitted-inputs}
 use Rattle.delta.proofs.Differences.{good-map, difference-fine, difference-says, difference-fits, difference-yields}
-use Rattle.delta.proofs.Demand.{Input, difference-short, merges, merge-writes}
-use Rattle.delta.proofs.Leading.{good-of, leads-map}
+use Rattle.delta.proofs.Demand.{difference-short, merges, merge-writes}
+use Rattle.delta.proofs.Leading.{leads-map}
 use Rattle.delta.proofs.Balance.{balanced}
 
 -- two answers that differ: from them anything follows
@@ -69,7 +70,7 @@ module _ (A C D : Bytes) (a : GoodSnapshot A) (l : LeadsTo A C D) (c : GoodSnaps
   fields-within : Part (cells (differenceOf A C)) (cells D)
   fields-within =
       rw (difference-cells, cells-of Delta D o (l .fine))
-      (part-map (cellFor Delta) (short.within strings strings (items A) (items C) (changes D) (good-map A (good-of A a) .sorted) (good-map C (good-of C c) .sorted) (leads-map A C D a l)))
+      (part-map (cellFor Delta) (short.within strings strings (items A) (items C) (changes D) (good-map A a .sorted) (good-map C c .sorted) (leads-map A C D a l)))
 
   difference-back : run.encode (cells (differenceOf A C)) ≡ differenceOf A C
   unfolding differenceOf encode
@@ -96,21 +97,18 @@ module _ (A C D : Bytes) (a : GoodSnapshot A) (l : LeadsTo A C D) (c : GoodSnaps
 composes : (A B C : Bytes) → GoodSnapshot A → GoodSnapshot B → GoodSnapshot C → mergedOf (differenceOf A B) (differenceOf B C) ≡ differenceOf A C
 unfolding mergedOf differenceOf
 composes A B C a b c =
-    rw (difference-says A B (good-of A a) (good-of B b), difference-says B C (good-of B b) (good-of C c))
-    (ap (encode Delta) (compose strings strings (items A) (items B) (items C) (good-map A (good-of A a) .sorted) (good-map B (good-of B b) .sorted) (good-map C (good-of C c) .sorted)))
+    rw (difference-says A B a b, difference-says B C b c)
+    (ap (encode Delta) (compose strings strings (items A) (items B) (items C) (good-map A a .sorted) (good-map B b .sorted) (good-map C c .sorted)))
 
 -- with room for any delta `merge` writes it
 enters : (out : Bytes) (serial : Serial) → limit Delta ≤ length out → (A B C : Bytes) → Acceptable A → Acceptable B → Acceptable C →
     mergeInto out serial (some (differenceOf A B)) (some (differenceOf B C)) ≡ some (differenceOf A C)
 enters out serial h A B C a b c =
-    let l = difference-short A C (input A a) (input C c) in
+    let l = difference-short A C a c in
     rw (
-      merges A B C (input A a) (input B b) (input C c) serial (length out) (omega arith),
-      merge-writes A B C (input A a) (input B b) (input C c) out (omega arith),
+      merges A B C a b c serial (length out) (omega arith),
+      merge-writes A B C a b c out (omega arith),
     ) (ap (λ (d : Bytes). some d) (take-append-seam (differenceOf A C) (drop (length (differenceOf A C)) out)))
-  where
-    input : (s : Bytes) → Acceptable s → Input s
-    input s i = record { good = good-of s (i .good); short = i .short }
 
 -- what `apply` accepts is good and fits
 both-yes : (x y : Admitted) → andThen x y ≡ Yes → (x ≡ Yes) × (y ≡ Yes)
@@ -135,9 +133,9 @@ pub shortest : Shortest
 shortest = record {
   accepted = accepts;
   leads = λ A C a c. record {
-    fine = difference-fine A C (good-of A a) (good-of C c);
-    fits = difference-fits A C (good-of A a) (good-of C c);
-    yields = difference-yields A C (good-of A a) (good-of C c);
+    fine = difference-fine A C a c;
+    fits = difference-fits A C a c;
+    yields = difference-yields A C a c;
   };
   shortest = λ A C D a c o l. no-longer A C D a l c o;
   grouping = tree-ends differenceOf mergedOf GoodSnapshot composes;

@@ -40,3 +40,12 @@ offsetOf IllFormed = 0
 offsetOf BadKeep = 0
 offsetOf StoreFull = 0
 offsetOf (TooLong argument) = 0
+
+-- the three together
+pub record Values : Type 0 where
+  pub number : ℕ
+  pub argument : ℕ
+  pub offset : ℕ
+
+abbrev pub valuesOf : Refusal → Values
+valuesOf r = record { number = numberOf r; argument = argumentOf r; offset = offsetOf r }

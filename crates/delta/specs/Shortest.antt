@@ -10,7 +10,7 @@ use Rattle.change.specs.History.{newest}
 use Rattle.change.specs.Short.{Part}
 use Rattle.change.specs.Grouping.{Grouping, leaves, mergeTree, steps}
 use Rattle.serial.specs.declared.Serial.{Serial}
-use Rattle.field.specs.declared.tag.Form.the-variants.{Snapshot, Delta}
+use Rattle.field.specs.declared.tag.Form.the-variants.{Delta}
 use Rattle.field.specs.declared.verdict.Verdict.the-variants.{Fine}
 use Rattle.field.specs.Verdict.{verdict}
 use Rattle.field.specs.Cells.{cells}
@@ -23,17 +23,8 @@ use Rattle.walk.specs.Fit.{fitOf}
 use Rattle.delta.specs.declared.merge.Merged.{Merged}
 use Rattle.delta.specs.declared.merge.Merged.the-variants as merged
 use Rattle.delta.specs.declared.apply.Applied.the-variants as applied
+use Rattle.delta.specs.Demand.{GoodSnapshot, Acceptable}
 use Rattle.delta.specs.Answer.{differenceOf, mergedOf, appliedOf, mergeOf, mergeOut, applyOf}
-
--- a good snapshot
-pub record GoodSnapshot (s : Bytes) : Type 0 where
-  pub octets : AllBytes s
-  pub fine : verdict Snapshot s ≡ Fine
-
--- one that the entries accept
-pub record Acceptable (s : Bytes) : Type 0 where
-  pub good : GoodSnapshot s
-  pub short : length s ≤ limit Snapshot
 
 -- a good delta that can be applied to A and yields C
 pub record LeadsTo (A C D : Bytes) : Type 0 where

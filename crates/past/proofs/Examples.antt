@@ -25,7 +25,7 @@ use Rattle.past.specs.Create.{freshOf, createOf}
 use Rattle.past.specs.Update.{stepFor, updateOf, updateSnapshots, updateDeltas}
 use Rattle.past.specs.Query.{mergedLast, refusedWith, servedWith, queryOf}
 use Rattle.past.specs.Run.{World, Call, update, updated, replyOf, Run, startOf, runOf}
-use Rattle.past.specs.Marked.{p, q, held, delta1, delta2, delta3}
+use Rattle.past.specs.Marked.{p, q, inSnapshot, delta1, delta2, delta3}
 
 -- a history as it stands with these deltas
 abbrev state : ℕ → ℕ → ℕ → List Bytes → History
@@ -64,23 +64,23 @@ runs keep room news = runOf (startOf 65_543 keep (replicate 12 9) (replicate roo
 
 pub record Examples : Type 0 where
   -- the first snapshot is current, and the serial stays 0
-  first-run : runs 2 32 (held p ∷ []) ≡ record { world = world (state 2 0 11 []) (held p ++ (9 ∷ [])) (replicate 32 8); given = held p ∷ [] }
+  first-run : runs 2 32 (inSnapshot p ∷ []) ≡ record { world = world (state 2 0 11 []) (inSnapshot p ++ (9 ∷ [])) (replicate 32 8); given = inSnapshot p ∷ [] }
   -- with keep 2 the third change drops the first delta; an unchanged snapshot changes nothing; what lies past the held bytes stays
-  long-run : runs 2 32 ([] ∷ held p ∷ held p ∷ held q ∷ [] ∷ [])
+  long-run : runs 2 32 ([] ∷ inSnapshot p ∷ inSnapshot p ∷ inSnapshot q ∷ [] ∷ [])
       ≡ record {
-        world = world (state 2 3 0 (delta2 ∷ delta3 ∷ [])) (held q ++ (9 ∷ [])) (delta2 ++ (delta3 ++ replicate 4 8));
-        given = [] ∷ held p ∷ held q ∷ [] ∷ [];
+        world = world (state 2 3 0 (delta2 ∷ delta3 ∷ [])) (inSnapshot q ++ (9 ∷ [])) (delta2 ++ (delta3 ++ replicate 4 8));
+        given = [] ∷ inSnapshot p ∷ inSnapshot q ∷ [] ∷ [];
       }
   -- deltas of 11 and 17 bytes fit into a store of 28; with one byte less the second is refused
-  just-room : runs 2 28 ([] ∷ held p ∷ held q ∷ []) .world ≡ world (state 2 2 11 (delta1 ∷ delta2 ∷ [])) (held q ++ (9 ∷ [])) (delta1 ++ delta2)
-  store-full : replyOf (runs 2 27 ([] ∷ held p ∷ []) .world) (update (held q)) ≡ updated (Refused StoreFull)
+  just-room : runs 2 28 ([] ∷ inSnapshot p ∷ inSnapshot q ∷ []) .world ≡ world (state 2 2 11 (delta1 ∷ delta2 ∷ [])) (inSnapshot q ++ (9 ∷ [])) (delta1 ++ delta2)
+  store-full : replyOf (runs 2 27 ([] ∷ inSnapshot p ∷ []) .world) (update (inSnapshot q)) ≡ updated (Refused StoreFull)
   -- the room of a dropped delta is used again: with keep 1 a store of 17 is enough
-  room-again : runs 1 17 ([] ∷ held p ∷ held q ∷ []) .world ≡ world (state 1 2 11 (delta2 ∷ [])) (held q ++ (9 ∷ [])) delta2
+  room-again : runs 1 17 ([] ∷ inSnapshot p ∷ inSnapshot q ∷ []) .world ≡ world (state 1 2 11 (delta2 ∷ [])) (inSnapshot q ++ (9 ∷ [])) delta2
   -- the answers: first, changed with the delta's counts, unchanged, refused for the first bad field
   first-answer : replyOf (runs 2 32 [] .world) (update []) ≡ updated First
-  changed-answer : replyOf (runs 2 32 ([] ∷ []) .world) (update (held p)) ≡ updated (Changed (countsOf delta1))
-  unchanged-answer : replyOf (runs 2 32 (held p ∷ []) .world) (update (held p)) ≡ updated Unchanged
-  bad-answer : replyOf (runs 2 32 (held p ∷ []) .world) (update (3 ∷ [])) ≡ updated (Refused (Bad 1 0))
+  changed-answer : replyOf (runs 2 32 ([] ∷ []) .world) (update (inSnapshot p)) ≡ updated (Changed (countsOf delta1))
+  unchanged-answer : replyOf (runs 2 32 (inSnapshot p ∷ []) .world) (update (inSnapshot p)) ≡ updated Unchanged
+  bad-answer : replyOf (runs 2 32 (inSnapshot p ∷ []) .world) (update (3 ∷ [])) ≡ updated (Refused (Bad 1 0))
   -- while inactive, serial 0 gets the empty delta; a session of other low bits is refused
   inactive-query : queryOf (freshOf 65_543 2) (record { 0 = 7 }) (record { 0 = 0 }) [] [] 0 ≡ servedWith (freshOf 65_543 2) []
   other-session : queryOf (freshOf 65_543 2) (record { 0 = 8 }) (record { 0 = 0 }) [] [] 0 ≡ refusedWith OtherSession
@@ -96,16 +96,16 @@ pub record Examples : Type 0 where
   serial-alone : wellFormed (any 2 true 1 0 []) [] [] ≡ false
   inactive-serial : wellFormed (any 2 false 1 0 []) [] [] ≡ false
   inactive-delta : wellFormed (any 2 false 0 0 (11 ∷ [])) [] delta1 ≡ false
-  inactive-snapshot : wellFormed (any 2 false 0 11 []) (held p) [] ≡ false
+  inactive-snapshot : wellFormed (any 2 false 0 11 []) (inSnapshot p) [] ≡ false
   -- held bytes past the end of a store
-  snapshot-past : wellFormed (any 2 true 0 12 []) (held p) [] ≡ false
+  snapshot-past : wellFormed (any 2 true 0 12 []) (inSnapshot p) [] ≡ false
   deltas-past : wellFormed (any 2 true 1 0 (12 ∷ [])) [] delta1 ≡ false
   -- a snapshot or a delta that is not good
   bad-snapshot : wellFormed (any 2 true 0 1 []) (3 ∷ []) [] ≡ false
   bad-delta : wellFormed (any 2 true 1 0 (1 ∷ [])) [] (0x31 ∷ []) ≡ false
   -- well formed: a fresh one, and F = 0 with a delta, as after the wrap
   fresh : wellFormed (any 2 false 0 0 []) [] [] ≡ true
-  wrapped : wellFormed (any 2 true 0 11 (11 ∷ [])) (held p) delta1 ≡ true
+  wrapped : wellFormed (any 2 true 0 11 (11 ∷ [])) (inSnapshot p) delta1 ≡ true
 
 pub examples : Examples
 unfolding createOf stepFor updateOf updateSnapshots updateDeltas queryOf wellFormed mergedLast verdict verdictF judge front goodBody tagOf kindOf keyOf goodAspa goodUpdate goodProviders asns ascending ascendingFrom cells cellsF field run.encode entries encode walk differenceOf

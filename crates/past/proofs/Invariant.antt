@@ -11,7 +11,8 @@ use borrow.Author.Tests.{le-leb, eq-eqb, eqb-true}
 use Rattle.order.specs.Comparison.{bytes}
 use Rattle.order.specs.Map.{All}
 use Rattle.change.specs.Difference.{diff}
-use Rattle.change.specs.History.{newest, diffs, held}
+use Rattle.change.specs.History.{lastN, newest, diffs, held}
+use Rattle.change.specs.Grouping.{steps}
 use Rattle.change.proofs.Chain.{all-newest}
 use Rattle.change.proofs.History.{diffs-length, held-push}
 use Rattle.field.specs.declared.tag.Form.the-variants.{Snapshot, Delta}
@@ -26,11 +27,12 @@ use Rattle.delta.specs.Answer.{differenceOf}
 use Rattle.past.specs.Store.{total, joined, heldSnapshot, heldLengths, heldDeltas, storeAfter}
 use Rattle.past.specs.WellFormed.{isGood, every, goodKeep, goodSerial, goodStart, wellFormed}
 use Rattle.past.specs.Update.{Step, refuse, first, unchanged, add, deltasWith, nextState, stepFor, updateAt, updateOf, snapshotsAt, updateSnapshots, deltasAt, updateDeltas}
-use Rattle.past.specs.Run.{World, Call, update, query, full, stepOf, givenBy, givenAfter}
+use Rattle.past.specs.Run.{World, Call, update, query, full, notify, ready, stepOf, givenBy, givenAfter}
 use Rattle.past.specs.Promise.{OfBytes}
-use Rattle.past.proofs.Lists.{lastN-length, pushed-last, newest-push, all-push, all-pushed, map-push, map-pushed, map-newest}
+use Rattle.past.proofs.Lists.{lastN-length, lastN-push, steps-push, pushed-last, newest-push, all-push, all-pushed, map-push, map-pushed, map-newest}
 use Rattle.past.proofs.Store.{joined-length, store-length, next-lengths, next-deltas}
-use Rattle.delta.proofs.Differences.{Good, difference-fine, difference-says}
+use Rattle.delta.specs.Demand.{GoodSnapshot}
+use Rattle.delta.proofs.Differences.{difference-fine, difference-says}
 use Rattle.past.proofs.Steps.{Adds, Begins, step-add, step-first}
 
 -- what no call changes: the session and keep of the creation, and stores within their limits
@@ -54,15 +56,16 @@ abbrev pub FineDelta : Bytes → Type 0
 FineDelta d = verdict Delta d ≡ Fine
 
 -- after the first snapshot S and the changed ones Ts: the newest is held, F is the count of changes modulo 2^32,
--- and the held deltas are good and say the last differences, as many as are kept
+-- and the held deltas are good, are the last differences, as many as are kept, and say them
 pub record Holds (session keep : ℕ) (w : World) (S : Bytes) (Ts : List Bytes) : Type 0 where
   pub frame : Frame session keep w
   pub active : w .history .active ≡ true
   pub serial : w .history .newest .0 ≡ length Ts % 2 ^ 32
-  pub good : Good S
-  pub goods : All Good Ts
+  pub good : GoodSnapshot S
+  pub goods : All GoodSnapshot Ts
   pub current : heldSnapshot (w .history) (w .snapshots) ≡ newest S Ts
   pub says : map changes (heldDeltas (w .history) (w .deltas)) ≡ held bytes bytes keep (items S) (map items Ts)
+  pub are : heldDeltas (w .history) (w .deltas) ≡ lastN keep (steps differenceOf S Ts)
   pub fine : All FineDelta (heldDeltas (w .history) (w .deltas))
   pub count : w .history .n ≡ length (heldDeltas (w .history) (w .deltas))
   pub within : w .history .snapshot ≤ length (w .snapshots)
@@ -96,6 +99,16 @@ module _ {session keep : ℕ} {w : World} where
       ∙ lastN-length keep (diffs bytes bytes (items S) (map items Ts))
       ∙ ap (min keep) (diffs-length bytes bytes (items S) (map items Ts) ∙ length-map Ts items)
 
+  -- with one more snapshot the last differences are held
+  pub would-hold : {S : Bytes} {Ts : List Bytes} → Holds session keep w S Ts → (new : Bytes) →
+      deltasWith (w .history) (w .deltas) (differenceOf (heldSnapshot (w .history) (w .snapshots)) new) ≡ lastN keep (steps differenceOf S (Ts ++ (new ∷ [])))
+  would-hold {S} {Ts} i new =
+      let c : w .history .n ≡ min keep (length Ts) = holds-count i in
+      let k : w .history .keep ≡ keep = i .frame .of-keep in
+      let l : 1 ≤ keep = i .frame .least in
+      pushed-last (w .history .n) (w .history .keep) (heldDeltas (w .history) (w .deltas)) (differenceOf (heldSnapshot (w .history) (w .snapshots)) new) (omega arith) (i .count) (omega arith)
+      ∙ rw (k, i .are, i .current, steps-push differenceOf S Ts new) (lastN-push keep (steps differenceOf S Ts) (differenceOf (newest S Ts) new))
+
   -- with none held the serial is 0
   pub holds-zero : {S : Bytes} {Ts : List Bytes} → Holds session keep w S Ts → w .history .n ≡ 0 → w .history .newest .0 ≡ 0
   holds-zero i e = let c = holds-count i in let s = i .serial in let f = i .frame in omega arith
@@ -116,7 +129,7 @@ module _ {session keep : ℕ} {w : World} where
       let start : goodStart (w .history) ≡ true = rw (i .active) in
       let limits = and (le-leb (length (w .snapshots)) (limit Snapshot) (f .snapshots)) (le-leb (length (w .deltas)) (limit Delta) (f .deltas)) in
       let stores = and (and limits (le-leb (w .history .snapshot) (length (w .snapshots)) (i .within))) (le-leb (total (heldLengths (w .history))) (length (w .deltas)) (i .room)) in
-      let snapshot : isGood Snapshot (heldSnapshot (w .history) (w .snapshots)) ≡ true = rw (i .current, all-newest Good S Ts (i .good) (i .goods) .fine) in
+      let snapshot : isGood Snapshot (heldSnapshot (w .history) (w .snapshots)) ≡ true = rw (i .current, all-newest GoodSnapshot S Ts (i .good) (i .goods) .fine) in
       and (and (and (and range (serial-good i)) start) stores) (and snapshot (every-fine (heldDeltas (w .history) (w .deltas)) (i .fine)))
 
   pub waits-formed : Waits session keep w → wellFormed (w .history) (w .snapshots) (w .deltas) ≡ true
@@ -172,6 +185,7 @@ module _ (session keep : ℕ) (w : World) (new : Bytes) (octets : AllBytes new) 
         goods = tt;
         current = take-append-seam new (drop (length new) (w .snapshots));
         says = sym (drop-nil (0 - keep));
+        are = sym (drop-nil (0 - keep));
         fine = tt;
         count = refl;
         within = rw l (b .fits);
@@ -182,11 +196,11 @@ module _ (session keep : ℕ) (w : World) (new : Bytes) (octets : AllBytes new) 
     is-difference : d ≡ differenceOf (newest S Ts) new
     is-difference = rw (← i .current) (a .difference)
 
-    good-new : Good new
+    good-new : GoodSnapshot new
     good-new = record { octets = octets; fine = a .fine }
 
-    good-old : Good (newest S Ts)
-    good-old = all-newest Good S Ts (i .good) (i .goods)
+    good-old : GoodSnapshot (newest S Ts)
+    good-old = all-newest GoodSnapshot S Ts (i .good) (i .goods)
 
     -- the deltas held afterwards
     abbrev next : List Bytes
@@ -231,9 +245,10 @@ module _ (session keep : ℕ) (w : World) (new : Bytes) (octets : AllBytes new) 
           active = refl;
           serial = let e = i .serial in rw (length-append Ts (new ∷ [])) (omega arith);
           good = i .good;
-          goods = all-push Good Ts new (i .goods) good-new;
+          goods = all-push GoodSnapshot Ts new (i .goods) good-new;
           current = take-append-seam new (drop (length new) (w .snapshots)) ∙ sym (newest-push S Ts new);
           says = rw next-held next-says;
+          are = rw next-held (ap (deltasWith (w .history) (w .deltas)) (a .difference) ∙ would-hold i new);
           fine = rw next-held next-fine;
           count = ap length (sym next-held);
           within = rw l (a .fits);
@@ -266,3 +281,5 @@ pub call-inv : (session keep : ℕ) (w : World) (given : List Bytes) (c : Call) 
 call-inv session keep w given (update new) o i = update-inv session keep w new o given i
 call-inv session keep w given (query s asked out) o i = i
 call-inv session keep w given full o i = i
+call-inv session keep w given notify o i = i
+call-inv session keep w given ready o i = i

@@ -1,9 +1,13 @@
 pub mod Lists
 pub mod Store
 pub mod Served
+pub mod Numbers
 pub mod Steps
 pub mod Invariant
+pub mod Updates
 pub mod Queries
+pub mod Creation
+pub mod Ordered
 pub mod Runs
 pub mod Marked
 pub mod Examples

@@ -1,6 +1,7 @@
 -- The marked examples hold, by computation.
 use mathlib.Core.Path.{refl}
 use Rattle.order.specs.Walk.{walk}
+use Rattle.serial.specs.Rfc1982.{firstOf, standing}
 use Rattle.field.specs.Tag.{tagOf, kindOf, goodBody}
 use Rattle.field.specs.Aspa.{asns, ascendingFrom, ascending, goodProviders, goodAspa, goodUpdate}
 use Rattle.field.specs.Head.{front}
@@ -16,14 +17,14 @@ use Rattle.past.specs.Marked.{Marked}
 
 -- K1 to K11
 pub marked : Marked
-unfolding queryOf queryOut wellFormed mergedLast verdict verdictF judge front goodBody tagOf kindOf keyOf goodAspa goodUpdate goodProviders asns ascending ascendingFrom cells cellsF field run.encode entries encode walk differenceOf mergedOf constructOf mergeOf mergeOut
+unfolding standing firstOf queryOf queryOut wellFormed mergedLast verdict verdictF judge front goodBody tagOf kindOf keyOf goodAspa goodUpdate goodProviders asns ascending ascendingFrom cells cellsF field run.encode entries encode walk differenceOf mergedOf constructOf mergeOf mergeOut
 marked = record {
   k1 = refl;
   k2 = (refl, refl);
   k3 = (refl, refl, refl, refl);
   k4 = refl;
   k5 = refl;
-  k6 = refl;
+  k6 = (refl, refl);
   k7 = refl;
   k8 = refl;
   k9 = refl;

@@ -4,11 +4,12 @@ use mathlib.Core.Path.{_≡_, refl, sym, ap, _∙_}
 use mathlib.Core.List.{List, [], _∷_, map}
 use mathlib.Core.Option.{some}
 use mathlib.Core.Bool.{Bool, true, false, cond, true≢false}
-use mathlib.Core.Logic.{_↔_}
+use mathlib.Core.Logic.{_↔_, _⊎_}
 use native.Mathlib.Omega.{arith}
 use lib.Dec.{leb, eqb}
 use lib.ListN.{length, length-take, length-map}
-use borrow.Author.Tests.{leb-true, le-leb, eqb-true, eqb-false, eq-eqb, ne-eqb}
+use lib.Seq.{drop-nil}
+use borrow.Author.Tests.{leb-true, leb-false, lt-leb, eqb-true, eqb-false, eq-eqb, ne-eqb}
 use Rattle.order.specs.Comparison.{bytes}
 use Rattle.order.specs.Map.{All, Sorted}
 use Rattle.order.proofs.Comparison.{strings}
@@ -20,50 +21,56 @@ use Rattle.change.proofs.Chain.{all-newest, all-nth}
 use Rattle.change.proofs.History.{answer}
 use Rattle.serial.specs.declared.Serial.{Serial}
 use Rattle.serial.specs.declared.Session.{Session}
+use Rattle.serial.specs.declared.order.Standing.the-variants.{Equal, Before, Unordered}
 use Rattle.serial.specs.Serial.{distanceOf, sessionOf}
+use Rattle.serial.specs.Rfc1982.{standing}
 use Rattle.serial.proofs.Steps.{same-serial}
 use Rattle.field.specs.declared.tag.Form.the-variants.{Snapshot, Delta}
-use Rattle.field.specs.Run.{AllBytes}
+use Rattle.field.specs.Cells as run
 use Rattle.payload.specs.Content.{Bytes}
 use Rattle.payload.specs.Payload.{encode, items, changes}
 use Rattle.payload.specs.Limit.{limit}
 use Rattle.field.proofs.Sizes.{both}
 use Rattle.delta.specs.declared.refusal.Refusal.{Refusal}
-use Rattle.delta.specs.declared.refusal.Refusal.the-variants.{OtherSession, NotServed, IllFormed, BadKeep, TooLong}
+use Rattle.delta.specs.declared.refusal.Refusal.the-variants.{NoRoom, OtherSession, NotServed, IllFormed, BadKeep, TooLong}
+use Rattle.delta.specs.Refusal.{Values}
 use Rattle.delta.specs.declared.admit.Admitted.{Admitted}
 use Rattle.delta.specs.declared.admit.Admitted.the-variants.{Yes, No}
 use Rattle.item.specs.declared.sink.Counts.{Counts}
 use Rattle.delta.specs.Admission.{andThen}
 use Rattle.delta.specs.Answer.{differenceOf, countsOf}
 use Rattle.past.specs.declared.create.Creation.the-variants.{Done, Refused}
-use Rattle.past.specs.declared.update.Update.the-variants.{Unchanged}
 use Rattle.past.specs.declared.query.Answer.{Answer}
 use Rattle.past.specs.declared.query.Answer.the-variants as answers
 use Rattle.past.specs.declared.query.Queried.{Queried}
 use Rattle.past.specs.declared.full.FullAnswer.the-variants.{Held}
 use Rattle.past.specs.Store.{heldDeltas}
 use Rattle.past.specs.WellFormed.{goodKeep, wellFormed}
-use Rattle.past.specs.Create.{freshOf, createAt, createOf}
+use Rattle.past.specs.Create.{createAt, createOf}
 use Rattle.past.specs.Update.{Step, refuse, first, unchanged, add, stepFor, updateAt, updateOf, snapshotsAt, updateSnapshots, deltasAt, updateDeltas}
-use Rattle.past.specs.Query.{isServed, isSession, mergedLast, answerOf, servedWith}
-use Rattle.past.specs.Full.{fullOf}
-use Rattle.past.specs.Run.{World, Call, update, query, full, updated, replyOf, stepOf, refusedUpdate, refusedAnswer, refused, Run, startOf, runOf}
-use Rattle.past.specs.Promise.{OfBytes, changesIn, serialIn, Rule, Leads, current, outputOf, asks, Promise}
+use Rattle.past.specs.Query.{isServed, isSession, mergedLast, answerOf, servedWith, queryOut}
+use Rattle.past.specs.Full.{fullOf, notifyOf, readyOf}
+use Rattle.past.specs.Run.{World, Call, update, query, full, notify, ready, queried, fully, noticed, isReady, replyOf, lentTo, leftIn, stepOf, refusedUpdate, refusedAnswer, numbered, refusedAs, refusal, Run, startOf, runOf, carried}
+use Rattle.past.specs.Promise.{OfBytes, changesIn, serialIn, InRule, due, Leads, current, writtenIn, queriedIn, Promise}
 use Rattle.past.proofs.Lists.{map-lastN, map-newest, map-nth, all-map}
-use Rattle.delta.proofs.Differences.{Good, good-map, difference-applies, difference-fits, difference-yields, difference-empty, difference-self}
+use Rattle.delta.specs.Demand.{GoodSnapshot, holding}
+use Rattle.delta.proofs.Differences.{good-map, difference-applies, difference-fits, difference-yields}
 use Rattle.past.proofs.Served.{served-rule, rule-served, rule-within, carried-back}
-use Rattle.past.proofs.Steps.{fine-admitted, step-seven, step-unchanged, unchanged-step}
-use Rattle.past.proofs.Invariant.{Frame, Holds, Waits, Inv, holds-count, holds-zero, holds-formed, inv-formed, call-inv}
+use Rattle.past.proofs.Steps.{step-seven, refused-step}
+use Rattle.past.proofs.Invariant.{Frame, Holds, Waits, Inv, holds-count, holds-zero, inv-formed, call-inv}
+use Rattle.past.proofs.Numbers.{through, update-refused, answer-refused}
+use Rattle.past.proofs.Updates.{inv-updates}
+use Rattle.past.proofs.Ordered.{rule-before, rule-unordered}
 use Rattle.past.proofs.Queries as queries
 
 -- ---- refused calls, of any world
 
--- a refused call leaves the history and both stores as they were
-pub refused-stays : (w : World) (c : Call) (r : Refusal) → refused (replyOf w c) ≡ some r → stepOf w c ≡ w
+-- a refused call leaves the history, both stores and the output lent to it as they were
+pub refused-stays : (w : World) (c : Call) (x : Values) → refusedAs (replyOf w c) ≡ some x → (stepOf w c ≡ w) × (leftIn (replyOf w c) ≡ lentTo c)
 unfolding updateOf updateSnapshots updateDeltas
-refused-stays w (update new) r e = go (stepFor (w .history) new (w .snapshots) (w .deltas)) e
+refused-stays w (update new) x e = (go (stepFor (w .history) new (w .snapshots) (w .deltas)) e, refl)
   where
-    go : (s : Step) → refusedUpdate (updateAt s (w .history) new (w .deltas) .answer) ≡ some r →
+    go : (s : Step) → numbered (refusedUpdate (updateAt s (w .history) new (w .deltas) .answer)) ≡ some x →
         _≡_ {A = World} (record {
           history = updateAt s (w .history) new (w .deltas) .history;
           snapshots = snapshotsAt s new (w .snapshots);
@@ -73,25 +80,28 @@ refused-stays w (update new) r e = go (stepFor (w .history) new (w .snapshots) (
     go first e = none≢some refl e
     go unchanged e = none≢some refl e
     go (add d) e = none≢some refl e
-refused-stays w (query session asked out) r e = refl
-refused-stays w full r e = refl
+refused-stays w (query session asked out) x e = (refl, go (queriedIn w session asked (length out) .answer) refl e)
+  where
+    go : (a : Answer) → queriedIn w session asked (length out) .answer ≡ a → numbered (refusedAnswer a) ≡ some x →
+        queryOut (w .history) session asked (w .snapshots) (w .deltas) out ≡ out
+    go (answers.Refused r) p e = queries.out-refused (w .history) session asked (w .snapshots) (w .deltas) out r p
+    go (answers.Served c) p e = none≢some refl e
+refused-stays w full x e = (refl, refl)
+refused-stays w notify x e = (refl, refl)
+refused-stays w ready x e = (refl, refl)
 
 -- a well-formed history gets no refusal 7
-formed-seven : (w : World) → wellFormed (w .history) (w .snapshots) (w .deltas) ≡ true → (c : Call) → ¬ (refused (replyOf w c) ≡ some IllFormed)
-unfolding updateOf fullOf
-formed-seven w f (update new) e = go (stepFor (w .history) new (w .snapshots) (w .deltas)) refl e
-  where
-    go : (s : Step) → stepFor (w .history) new (w .snapshots) (w .deltas) ≡ s → refusedUpdate (updateAt s (w .history) new (w .deltas) .answer) ≡ some IllFormed → ⊥
-    go (refuse r) p e = step-seven (w .history) new (w .snapshots) (w .deltas) f (cc)
-    go first p e = none≢some refl e
-    go unchanged p e = none≢some refl e
-    go (add d) p e = none≢some refl e
-formed-seven w f (query s asked out) e = go (asks w s asked (length out) .answer) refl e
-  where
-    go : (a : Answer) → asks w s asked (length out) .answer ≡ a → refusedAnswer a ≡ some IllFormed → ⊥
-    go (answers.Refused r) p e = true≢false (sym f ∙ queries.seven (w .history) s asked (w .snapshots) (w .deltas) (length out) .0 (cc))
-    go (answers.Served c) p e = none≢some refl e
+formed-seven : (w : World) → wellFormed (w .history) (w .snapshots) (w .deltas) ≡ true → (c : Call) → ¬ (refusedAs (replyOf w c) ≡ refusal 7 0 0)
+unfolding fullOf
+formed-seven w f (update new) e =
+    let p = update-refused (updateOf (w .history) new (w .snapshots) (w .deltas) .answer) IllFormed .0 e in
+    step-seven (w .history) new (w .snapshots) (w .deltas) f (refused-step (w .history) new (w .snapshots) (w .deltas) IllFormed .0 p)
+formed-seven w f (query s asked out) e =
+    let p = answer-refused (queriedIn w s asked (length out) .answer) IllFormed .0 e in
+    true≢false (sym f ∙ queries.seven (w .history) s asked (w .snapshots) (w .deltas) (length out) .0 p)
 formed-seven w f full e = none≢some refl (rw f at e)
+formed-seven w f notify e = none≢some refl e
+formed-seven w f ready e = none≢some refl e
 
 -- ---- what a served query gets
 
@@ -110,47 +120,55 @@ module _ {session keep : ℕ} {w : World} {S : Bytes} {Ts : List Bytes} (i : Hol
       let l = rule-within (w .history .n) (w .history .newest) asked (holds-zero i) (served-rule (w .history .n) asked d served) in
       omega arith
 
-  good-base : Good base
-  good-base = all-nth Good (length Ts - d) S Ts (i .good) (i .goods)
+  good-base : GoodSnapshot base
+  good-base = all-nth GoodSnapshot (length Ts - d) S Ts (i .good) (i .goods)
 
-  good-newest : Good (newest S Ts)
-  good-newest = all-newest Good S Ts (i .good) (i .goods)
+  good-newest : GoodSnapshot (newest S Ts)
+  good-newest = all-newest GoodSnapshot S Ts (i .good) (i .goods)
 
   -- the last d deltas, merged, are the difference from there to the newest
   merged-is : mergeAll bytes bytes (map changes (lastN d (heldDeltas (w .history) (w .deltas)))) ≡ diff bytes bytes (items base) (items (newest S Ts))
   merged-is =
       let s : Sorted bytes (items S) = good-map S (i .good) .sorted in
-      let t : All (Sorted bytes) (map items Ts) = all-map items Good (Sorted bytes) (λ T g. good-map T g .sorted) Ts (i .goods) in
+      let t : All (Sorted bytes) (map items Ts) = all-map items GoodSnapshot (Sorted bytes) (λ T g. good-map T g .sorted) Ts (i .goods) in
       rw (map-lastN changes d (heldDeltas (w .history) (w .deltas)), i .says)
       (answer strings strings keep d (items S) (map items Ts) (near .0) s t
       ∙ rw (length-map Ts items, map-nth items (length Ts - d) S Ts, map-newest items S Ts))
 
-  answer-is : answerOf (w .history) asked (w .deltas) ≡ differenceOf base (newest S Ts)
+  pub answer-is : answerOf (w .history) asked (w .deltas) ≡ differenceOf base (newest S Ts)
   unfolding mergedLast differenceOf
   answer-is = ap (encode Delta) merged-is
+
+  pub base-carried : asked .0 < 2 ^ 32 → carried asked (S ∷ Ts) ≡ some base
+  base-carried l = carried-back (w .history .newest) asked S Ts l (i .serial) (near .1)
+
+  -- it is what is due
+  pub answer-due : asked .0 < 2 ^ 32 → answerOf (w .history) asked (w .deltas) ≡ due w (S ∷ Ts) asked
+  answer-due l = rw (base-carried l, i .current) answer-is
 
   pub answer-leads : asked .0 < 2 ^ 32 → Leads (S ∷ Ts) (current w) asked (answerOf (w .history) asked (w .deltas))
   answer-leads l = rw (answer-is, i .current) (record {
     base = base;
-    most-recent = carried-back (w .history .newest) asked S Ts l (i .serial) (near .1);
+    most-recent = base-carried l;
     applies = difference-applies base (newest S Ts) good-base good-newest;
     fits = difference-fits base (newest S Ts) good-base good-newest;
     yields = difference-yields base (newest S Ts) good-base good-newest;
     exact = refl;
   })
 
+-- before the first snapshot nothing is due
+waits-due : {session keep : ℕ} {w : World} → Waits session keep w → (asked : Serial) → answerOf (w .history) asked (w .deltas) ≡ []
+unfolding mergedLast encode run.encode
+waits-due {w = w} i asked = rw (i .count, drop-nil (0 - distanceOf (w .history .newest) asked))
+
+queried-path : {a b : Queried} {x y : Bytes} → a ≡ b → x ≡ y → queried a x ≡ queried b y
+queried-path p q = λ i. queried (p i) (q i)
+
+served-path : {a b : Session} {f g : Serial} {d e : Bytes} → a ≡ b → f ≡ g → d ≡ e →
+    _≡_ {A = Queried} (record { session = a; serial = f; answer = answers.Served (countsOf d) }) (record { session = b; serial = g; answer = answers.Served (countsOf e) })
+served-path p q r = λ i. record { session = p i; serial = q i; answer = answers.Served (countsOf (r i)) }
+
 -- ---- every run
-
-empty : (s : Bytes) → length s ≡ 0 → s ≡ []
-empty [] e = refl
-empty (x ∷ s) e = absurd (omega arith)
-
--- a creation with keep 1 to 64 and stores within their limits is done
-pub create-done : (session keep : ℕ) (snapshots deltas : Bytes) → 1 ≤ keep → keep ≤ 64 → length snapshots ≤ limit Snapshot → length deltas ≤ limit Delta →
-    createOf session keep snapshots deltas ≡ record { answer = Done; history = freshOf session keep }
-unfolding createOf
-create-done session keep snapshots deltas a b c d =
-    rw (le-leb 1 keep a, le-leb keep 64 b, le-leb (length snapshots) (limit Snapshot) c, le-leb (length deltas) (limit Delta) d)
 
 -- a creation that is done leaves a fresh history
 start-inv : (session keep : ℕ) (snapshots deltas : Bytes) → createOf session keep snapshots deltas .answer ≡ Done →
@@ -217,54 +235,122 @@ module _ (session keep : ℕ) (w : World) where
     same-session : (s : Session) → isSession (w .history) s ≡ eqb (s .0) (session % 65_536)
     same-session s = rw (inv-frame given i .of-session)
 
-    inv-five : (s : Session) (asked : Serial) (room : ℕ) → asks w s asked room .answer ≡ answers.Refused OtherSession ↔ ¬ (s .0 ≡ session % 65_536)
-    inv-five s asked room =
-        let q = queries.five (w .history) s asked (w .snapshots) (w .deltas) room in (
+    inv-five : (s : Session) (asked : Serial) (out : Bytes) → refusedAs (replyOf w (query s asked out)) ≡ refusal 5 0 0 ↔ ¬ (s .0 ≡ session % 65_536)
+    inv-five s asked out =
+        let q = queries.five (w .history) s asked (w .snapshots) (w .deltas) (length out) in
+        through (answer-refused (queriedIn w s asked (length out) .answer) OtherSession) (
           λ e. eqb-false (s .0) (session % 65_536) (sym (same-session s) ∙ q .0 e .1),
           λ n. q .1 (formed, same-session s ∙ ne-eqb (s .0) (session % 65_536) n),
         )
+
+    same-name : sessionOf (w .history .session) ≡ sessionOf session
+    same-name = ap sessionOf (inv-frame given i .of-session)
 
     -- the rule of the run's own counts
     same-served : (asked : Serial) → isServed (w .history .n) asked (distanceOf (w .history .newest) asked) ≡ isServed (min keep (changesIn given)) asked (distanceOf (serialIn given) asked)
     same-served asked = rw (inv-count given i, inv-serial given i)
 
-    inv-six : (s : Session) (asked : Serial) (room : ℕ) →
-        asks w s asked room .answer ≡ answers.Refused NotServed
-        ↔ (s .0 ≡ session % 65_536) × ¬ Rule (min keep (changesIn given)) (asked .0) (distanceOf (serialIn given) asked)
-    inv-six s asked room =
-        let q = queries.six (w .history) s asked (w .snapshots) (w .deltas) room in (
+    rule-of : (asked : Serial) → isServed (w .history .n) asked (distanceOf (w .history .newest) asked) ≡ true ↔ InRule keep given asked
+    rule-of asked = (
+      λ e. served-rule (min keep (changesIn given)) asked (distanceOf (serialIn given) asked) (sym (same-served asked) ∙ e),
+      λ r. same-served asked ∙ rule-served (min keep (changesIn given)) asked (distanceOf (serialIn given) asked) r,
+    )
+
+    unserved : (asked : Serial) → ¬ InRule keep given asked → isServed (w .history .n) asked (distanceOf (w .history .newest) asked) ≡ false
+    unserved asked n = go (isServed (w .history .n) asked (distanceOf (w .history .newest) asked)) refl
+      where
+        go : (b : Bool) → isServed (w .history .n) asked (distanceOf (w .history .newest) asked) ≡ b → b ≡ false
+        go true e = absurd (n (rule-of asked .0 e))
+        go false e = refl
+
+    inv-six : (s : Session) (asked : Serial) (out : Bytes) →
+        refusedAs (replyOf w (query s asked out)) ≡ refusal 6 0 0 ↔ (s .0 ≡ session % 65_536) × ¬ InRule keep given asked
+    inv-six s asked out =
+        let q = queries.six (w .history) s asked (w .snapshots) (w .deltas) (length out) in
+        through (answer-refused (queriedIn w s asked (length out) .answer) NotServed) (
           λ e. (
             eqb-true (s .0) (session % 65_536) (sym (same-session s) ∙ q .0 e .1),
-            λ r. true≢false (sym (rule-served (min keep (changesIn given)) asked (distanceOf (serialIn given) asked) r) ∙ sym (same-served asked) ∙ q .0 e .2),
+            λ r. true≢false (sym (rule-of asked .1 r) ∙ q .0 e .2),
           ),
-          λ e. q .1 (formed, same-session s ∙ eq-eqb (s .0) (session % 65_536) (e .0), same-served asked ∙ unserved asked (e .1)),
+          λ e. q .1 (formed, same-session s ∙ eq-eqb (s .0) (session % 65_536) (e .0), unserved asked (e .1)),
         )
+
+    -- what a served query gets is what is due
+    inv-due : (asked : Serial) → asked .0 < 2 ^ 32 → isServed (w .history .n) asked (distanceOf (w .history .newest) asked) ≡ true →
+        answerOf (w .history) asked (w .deltas) ≡ due w given asked
+    inv-due asked l v = go given i
       where
-        unserved : (asked : Serial) → ¬ Rule (min keep (changesIn given)) (asked .0) (distanceOf (serialIn given) asked) → isServed (min keep (changesIn given)) asked (distanceOf (serialIn given) asked) ≡ false
-        unserved asked n = go (isServed (min keep (changesIn given)) asked (distanceOf (serialIn given) asked)) refl
-          where
-            go : (b : Bool) → isServed (min keep (changesIn given)) asked (distanceOf (serialIn given) asked) ≡ b → b ≡ false
-            go true e = absurd (n (served-rule (min keep (changesIn given)) asked (distanceOf (serialIn given) asked) e))
-            go false e = refl
+        go : (given : List Bytes) → Inv session keep w given → answerOf (w .history) asked (w .deltas) ≡ due w given asked
+        go [] i = waits-due i asked
+        go (S ∷ Ts) i = answer-due i asked v l
 
-    same-name : sessionOf (w .history .session) ≡ sessionOf session
-    same-name = ap sessionOf (inv-frame given i .of-session)
+    inv-four : (s : Session) (asked : Serial) (out : Bytes) → asked .0 < 2 ^ 32 →
+        refusedAs (replyOf w (query s asked out)) ≡ refusal 4 0 0
+        ↔ (s .0 ≡ session % 65_536) × InRule keep given asked × (length out < length (due w given asked))
+    inv-four s asked out l =
+        let q = queries.four (w .history) s asked (w .snapshots) (w .deltas) (length out) in
+        through (answer-refused (queriedIn w s asked (length out) .answer) NoRoom) (
+          λ e.
+              let f = q .0 e in
+              let k : length out < length (answerOf (w .history) asked (w .deltas)) = leb-false (length (answerOf (w .history) asked (w .deltas))) (length out) (f .3) in (
+                eqb-true (s .0) (session % 65_536) (sym (same-session s) ∙ f .1),
+                rule-of asked .0 (f .2),
+                rw (inv-due asked l (f .2)) at k,
+              ),
+          λ e.
+              let v = rule-of asked .1 (e .1) in
+              q .1 (
+                formed,
+                same-session s ∙ eq-eqb (s .0) (session % 65_536) (e .0),
+                v,
+                lt-leb (length (answerOf (w .history) asked (w .deltas))) (length out) (rw (inv-due asked l v) (e .2)),
+              ),
+        )
 
-    inv-names : (s : Session) (asked : Serial) (out : Bytes) (c : Counts) → asks w s asked (length out) .answer ≡ answers.Served c →
-        (asks w s asked (length out) .session ≡ sessionOf session) × (asks w s asked (length out) .serial ≡ serialIn given) × (c ≡ countsOf (outputOf w s asked out c))
+    inv-serves : (s : Session) (asked : Serial) (out : Bytes) → asked .0 < 2 ^ 32 → s .0 ≡ session % 65_536 → InRule keep given asked →
+        length (due w given asked) ≤ length out →
+        replyOf w (query s asked out)
+        ≡ queried (record { session = sessionOf session; serial = serialIn given; answer = answers.Served (countsOf (due w given asked)) }) (holding (due w given asked) out)
+    inv-serves s asked out l e r k =
+        let v = rule-of asked .1 r in
+        let d = inv-due asked l v in
+        let m : length (answerOf (w .history) asked (w .deltas)) ≤ length out = rw d k in
+        let p = queries.serves (w .history) s asked (w .snapshots) (w .deltas) (length out) formed (same-session s ∙ eq-eqb (s .0) (session % 65_536) e) v m in
+        queried-path (p ∙ served-path same-name (inv-serial given i) d)
+        (queries.out-whole (w .history) s asked (w .snapshots) (w .deltas) out (countsOf (answerOf (w .history) asked (w .deltas))) (ap (λ (a : Queried). a .answer) p)
+        ∙ ap (λ (x : Bytes). holding x out) d)
+
+    inv-ordered : (s : Session) (asked : Serial) (out : Bytes) (c : Counts) → asked .0 < 2 ^ 32 → queriedIn w s asked (length out) .answer ≡ answers.Served c →
+        (standing asked (serialIn given) ≡ Equal) ⊎ (standing asked (serialIn given) ≡ Before)
+    inv-ordered s asked out c l e =
+        let f = inv-frame given i in
+        rule-before keep given asked (f .least) (f .most) l (rule-of asked .0 (queries.found-served (w .history) s asked (w .snapshots) (w .deltas) out c e))
+
+    inv-unordered : (s : Session) (asked : Serial) (out : Bytes) → asked .0 < 2 ^ 32 → s .0 ≡ session % 65_536 → standing asked (serialIn given) ≡ Unordered →
+        refusedAs (replyOf w (query s asked out)) ≡ refusal 6 0 0
+    inv-unordered s asked out l e u =
+        let f = inv-frame given i in
+        inv-six s asked out .1 (e, rule-unordered keep given asked (f .least) (f .most) l u)
+
+    inv-notice : replyOf w notify ≡ noticed (record { session = sessionOf session; serial = serialIn given })
+    unfolding notifyOf
+    inv-notice = rw (← inv-frame given i .of-session, ← inv-serial given i)
+
+    inv-names : (s : Session) (asked : Serial) (out : Bytes) (c : Counts) → queriedIn w s asked (length out) .answer ≡ answers.Served c →
+        (queriedIn w s asked (length out) .session ≡ sessionOf session) × (queriedIn w s asked (length out) .serial ≡ serialIn given) × (c ≡ countsOf (writtenIn w s asked out c))
     inv-names s asked out c e =
-        let q : asks w s asked (length out) ≡ servedWith (w .history) (answerOf (w .history) asked (w .deltas)) = queries.answer-served (w .history) s asked (w .snapshots) (w .deltas) out c e in (
+        let q : queriedIn w s asked (length out) ≡ servedWith (w .history) (answerOf (w .history) asked (w .deltas)) = queries.answer-served (w .history) s asked (w .snapshots) (w .deltas) out c e in (
           ap (λ (a : Queried). a .session) q ∙ same-name,
           ap (λ (a : Queried). a .serial) q ∙ inv-serial given i,
           queries.counts-served (w .history) s asked (w .snapshots) (w .deltas) out c e ∙ ap countsOf (sym (queries.out-served (w .history) s asked (w .snapshots) (w .deltas) out c e)),
         )
 
-    inv-whole : fullOf (w .history) (w .snapshots) (w .deltas) ≡ record { session = sessionOf session; serial = serialIn given; answer = Held (length (current w)) }
+    inv-whole : replyOf w full ≡ fully (record { session = sessionOf session; serial = serialIn given; answer = Held (length (current w)) })
     unfolding fullOf
     inv-whole = rw (formed, ← inv-frame given i .of-session, ← inv-serial given i, inv-length given i)
 
-    inv-leads : (s : Session) (asked : Serial) (out : Bytes) (c : Counts) → asked .0 < 2 ^ 32 → ¬ (given ≡ []) → asks w s asked (length out) .answer ≡ answers.Served c →
-        Leads given (current w) asked (outputOf w s asked out c)
+    inv-leads : (s : Session) (asked : Serial) (out : Bytes) (c : Counts) → asked .0 < 2 ^ 32 → ¬ (given ≡ []) → queriedIn w s asked (length out) .answer ≡ answers.Served c →
+        Leads given (current w) asked (writtenIn w s asked out c)
     inv-leads s asked out c l n e =
         rw (queries.out-served (w .history) s asked (w .snapshots) (w .deltas) out c e)
         (go given i n (queries.found-served (w .history) s asked (w .snapshots) (w .deltas) out c e))
@@ -274,37 +360,10 @@ module _ (session keep : ℕ) (w : World) where
         go [] i n q = absurd (n refl)
         go (S ∷ Ts) i n q = answer-leads i asked q l
 
-  -- an update changes nothing exactly if it brings the current snapshot
-  holds-unchanged : (S : Bytes) (Ts : List Bytes) → Holds session keep w S Ts → (new : Bytes) → AllBytes new →
-      replyOf w (update new) ≡ updated Unchanged ↔ new ≡ current w
-  unfolding updateOf
-  holds-unchanged S Ts i new o = (
-    λ e. only (stepFor (w .history) new (w .snapshots) (w .deltas)) refl e,
-    λ e. ap (λ (s : Step). updated (updateAt s (w .history) new (w .deltas) .answer)) (again e),
-  )
-    where
-      good : Good (current w)
-      good = rw (i .current) (all-newest Good S Ts (i .good) (i .goods))
-
-      only : (s : Step) → stepFor (w .history) new (w .snapshots) (w .deltas) ≡ s → updated (updateAt s (w .history) new (w .deltas) .answer) ≡ updated Unchanged → new ≡ current w
-      only (refuse r) p e = cc
-      only first p e = cc
-      only unchanged p e =
-          let f = step-unchanged (w .history) new (w .snapshots) (w .deltas) p in
-          sym (difference-empty (current w) new good (record { octets = o; fine = f .0 }) (empty (differenceOf (current w) new) (f .1)))
-      only (add d) p e = cc
-
-      again : new ≡ current w → stepFor (w .history) new (w .snapshots) (w .deltas) ≡ unchanged
-      again e =
-          let f = i .frame .snapshots in
-          let l : length new ≤ limit Snapshot = rw (e, length-take (w .history .snapshot) (w .snapshots)) (omega arith) in
-          let z : length (differenceOf (current w) new) ≡ 0 = rw (e, difference-self (current w) good) in
-          unchanged-step (w .history) new (w .snapshots) (w .deltas) (holds-formed i) (fine-admitted Snapshot new l (rw e (good .fine))) (i .active) z
-
-  inv-unchanged : (given : List Bytes) → Inv session keep w given → (new : Bytes) → AllBytes new → ¬ (given ≡ []) →
-      replyOf w (update new) ≡ updated Unchanged ↔ new ≡ current w
-  inv-unchanged [] i new o n = absurd (n refl)
-  inv-unchanged (S ∷ Ts) i new o n = holds-unchanged S Ts i new o
+  inv-mark : (given : List Bytes) → Inv session keep w given → replyOf w ready ≡ isReady true ↔ ¬ (given ≡ [])
+  unfolding readyOf
+  inv-mark [] i = (λ e. let p = i .active in absurd (let z : _≡_ {A = ℕ} 0 1 = cc in omega arith), λ n. absurd (n refl))
+  inv-mark (S ∷ Ts) i = (λ e n. let z : _≡_ {A = ℕ} 0 1 = cc in omega arith, λ n. rw (i .active))
 
   inv-current : (given : List Bytes) → Inv session keep w given → (S : Bytes) (Ts : List Bytes) → given ≡ S ∷ Ts → current w ≡ newest S Ts
   inv-current given i S Ts e = let j : Holds session keep w S Ts = rw e at i in j .current
@@ -320,12 +379,19 @@ promise session keep snapshots deltas done calls octets =
     go r i = record {
       formed = formed session keep (r .world) (r .given) i;
       no-seven = formed-seven (r .world) (formed session keep (r .world) (r .given) i);
+      stays = refused-stays (r .world);
       serial = inv-serial session keep (r .world) (r .given) i;
       newest-current = inv-current session keep (r .world) (r .given) i;
-      unchanged = inv-unchanged session keep (r .world) (r .given) i;
+      updates = inv-updates session keep (r .world) (r .given) i;
       five = inv-five session keep (r .world) (r .given) i;
       six = inv-six session keep (r .world) (r .given) i;
+      four = inv-four session keep (r .world) (r .given) i;
+      serves = inv-serves session keep (r .world) (r .given) i;
       names = inv-names session keep (r .world) (r .given) i;
       whole = inv-whole session keep (r .world) (r .given) i;
       leads = inv-leads session keep (r .world) (r .given) i;
+      ordered = inv-ordered session keep (r .world) (r .given) i;
+      unordered = inv-unordered session keep (r .world) (r .given) i;
+      notice = inv-notice session keep (r .world) (r .given) i;
+      mark = inv-mark session keep (r .world) (r .given) i;
     }

@@ -12,6 +12,7 @@ use Rattle.change.specs.History.{nth}
 use Rattle.serial.specs.declared.Serial.{Serial}
 use Rattle.serial.specs.Serial.{nextOf, distanceOf}
 use Rattle.payload.specs.Content.{Bytes}
+use Rattle.past.specs.Start.{startSerial}
 use Rattle.past.specs.Query.{isServed}
 use Rattle.past.specs.Promise.{Rule, none-held, newest-held, one-before, more-before}
 use Rattle.past.specs.Run.{carriedFrom, carried}
@@ -71,4 +72,4 @@ carried-from f a (suc i) S (T ∷ Ts) l m e h k =
 pub carried-back : (newest asked : Serial) (S : Bytes) (Ts : List Bytes) → asked .0 < 2 ^ 32 → newest .0 ≡ length Ts % 2 ^ 32 →
     distanceOf newest asked ≤ length Ts → carried asked (S ∷ Ts) ≡ some (nth (length Ts - distanceOf newest asked) S Ts)
 carried-back f a S Ts l e h =
-    carried-from (record { 0 = 0 }) a (length Ts - distanceOf f a) S Ts l (omega arith) (omega arith) (omega arith) (omega arith)
+    carried-from startSerial a (length Ts - distanceOf f a) S Ts l (omega arith) (omega arith) (omega arith) (omega arith)

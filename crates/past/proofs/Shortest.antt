@@ -11,13 +11,15 @@ use Rattle.change.proofs.Chain.{all-newest}
 use Rattle.serial.specs.declared.Serial.{Serial}
 use Rattle.serial.specs.Serial.{nextOf}
 use Rattle.payload.specs.Content.{Bytes}
-use Rattle.delta.specs.Shortest.{GoodSnapshot, LeadsTo}
+use Rattle.delta.specs.Demand.{GoodSnapshot}
+use Rattle.delta.specs.Shortest.{LeadsTo}
 use Rattle.delta.proofs.Shortest as delta
 use Rattle.past.specs.declared.create.Creation.the-variants.{Done}
+use Rattle.past.specs.Start.{startSerial}
 use Rattle.past.specs.Create.{createOf}
 use Rattle.past.specs.Update.{Step, refuse, first, unchanged, add, stepFor, updateAt, updateOf}
-use Rattle.past.specs.Run.{World, Call, update, query, full, givenBy, givenAfter, Run, startOf, runOf, orLast, carriedFrom, carried}
-use Rattle.past.specs.Promise.{OfBytes, Leads, outputOf, current, Promise}
+use Rattle.past.specs.Run.{World, Call, update, query, full, notify, ready, givenBy, givenAfter, Run, startOf, runOf, orLast, carriedFrom, carried}
+use Rattle.past.specs.Promise.{OfBytes, Leads, writtenIn, current, Promise}
 use Rattle.past.specs.Shortest.{ShortestHome, Shortest}
 use Rattle.past.proofs.Lists.{all-push}
 use Rattle.past.proofs.Steps.{step-add, step-first}
@@ -37,6 +39,8 @@ good-step w (update new) given o h = go (stepFor (w .history) new (w .snapshots)
     go (add d) e = all-push GoodSnapshot given new h (record { octets = o; fine = step-add (w .history) new (w .snapshots) (w .deltas) d e .fine })
 good-step w (query session asked out) given o h = h
 good-step w full given o h = h
+good-step w notify given o h = h
+good-step w ready given o h = h
 
 given-good : (r : Run) (calls : List Call) → All OfBytes calls → All GoodSnapshot (r .given) → All GoodSnapshot (runOf r calls .given)
 given-good r [] o h = h
@@ -68,7 +72,7 @@ module _ (session keep : ℕ) (r : Run) (p : Promise session keep r) (goods : Al
   home : (asked : Serial) (answer : Bytes) → ¬ (r .given ≡ []) → Leads (r .given) (current (r .world)) asked answer →
       ShortestHome (r .given) (current (r .world)) asked answer
   home asked answer n l =
-      let b : GoodSnapshot (l .base) = all-carried GoodSnapshot (record { 0 = 0 }) asked (r .given) (l .base) goods (l .most-recent) in
+      let b : GoodSnapshot (l .base) = all-carried GoodSnapshot startSerial asked (r .given) (l .base) goods (l .most-recent) in
       let c : GoodSnapshot (current (r .world)) = good-current n in
       let t : LeadsTo (l .base) (current (r .world)) answer = rw (l .exact) (delta.shortest .leads (l .base) (current (r .world)) b c) in
       record {
@@ -87,4 +91,4 @@ shortest session keep snapshots deltas done calls octets =
     (given-good (startOf session keep snapshots deltas) calls octets tt)
   where
     go : (r : Run) → Promise session keep r → All GoodSnapshot (r .given) → Shortest r
-    go r p g = record { home = λ s asked out c l n e. home session keep r p g asked (outputOf (r .world) s asked out c) n (p .leads s asked out c l n e) }
+    go r p g = record { home = λ s asked out c l n e. home session keep r p g asked (writtenIn (r .world) s asked out c) n (p .leads s asked out c l n e) }

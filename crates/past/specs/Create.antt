@@ -11,6 +11,7 @@ use Rattle.delta.specs.Admission.{andThen, limitOf}
 use Rattle.past.specs.declared.state.History.{History}
 use Rattle.past.specs.declared.create.Creation.the-variants.{Done, Refused}
 use Rattle.past.specs.declared.create.Created.{Created}
+use Rattle.past.specs.Start.{startSerial}
 use Rattle.past.specs.Store.{lengthsOf}
 use Rattle.past.specs.WellFormed.{goodKeep}
 
@@ -20,7 +21,7 @@ freshOf session keep = record {
   session = session;
   keep = keep;
   active = false;
-  newest = record { 0 = 0 };
+  newest = startSerial;
   n = 0;
   snapshot = 0;
   deltas = lengthsOf [];

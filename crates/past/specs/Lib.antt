@@ -1,3 +1,4 @@
+pub mod Start
 pub mod Store
 pub mod WellFormed
 pub mod Create

@@ -5,7 +5,9 @@ use mathlib.Core.List.{List, [], _∷_, _++_}
 use mathlib.Core.Bool.{true}
 use lib.ListN.{length, replicate}
 use Rattle.serial.specs.declared.Serial.{Serial}
+use Rattle.serial.specs.declared.order.Standing.the-variants.{Unordered}
 use Rattle.serial.specs.declared.timing.Timing.{Timing}
+use Rattle.serial.specs.Rfc1982.{standing}
 use Rattle.serial.specs.Timing.{timingOf}
 use Rattle.payload.specs.Content.{Bytes}
 use Rattle.delta.specs.declared.refusal.Refusal.the-variants.{NotServed}
@@ -33,27 +35,27 @@ q = 0 ∷ 0 ∷ 251 ∷ 242 ∷ []
 abbrev pub customer : Bytes
 customer = 0 ∷ 0 ∷ 251 ∷ 244 ∷ []
 
-abbrev pub held : Bytes → Bytes
-held n = 0x03 ∷ 0 ∷ 8 ∷ (customer ++ n)
+abbrev pub inSnapshot : Bytes → Bytes
+inSnapshot n = 0x03 ∷ 0 ∷ 8 ∷ (customer ++ n)
 
-abbrev pub announced : Bytes → Bytes
-announced n = 0x31 ∷ 0 ∷ 8 ∷ (customer ++ n)
+abbrev pub announcing : Bytes → Bytes
+announcing n = 0x31 ∷ 0 ∷ 8 ∷ (customer ++ n)
 
-abbrev pub withdrawn : Bytes → Bytes
-withdrawn n = 0x32 ∷ 0 ∷ 8 ∷ (customer ++ n)
+abbrev pub withdrawing : Bytes → Bytes
+withdrawing n = 0x32 ∷ 0 ∷ 8 ∷ (customer ++ n)
 
-abbrev pub updated : Bytes → Bytes → Bytes
-updated former new = 0x33 ∷ 0 ∷ 14 ∷ (customer ++ (0 ∷ 1 ∷ (former ++ new)))
+abbrev pub updating : Bytes → Bytes → Bytes
+updating former new = 0x33 ∷ 0 ∷ 14 ∷ (customer ++ (0 ∷ 1 ∷ (former ++ new)))
 
 -- three deltas, one after the other: the ASPA comes, changes its provider, and goes
 abbrev pub delta1 : Bytes
-delta1 = announced p
+delta1 = announcing p
 
 abbrev pub delta2 : Bytes
-delta2 = updated p q
+delta2 = updating p q
 
 abbrev pub delta3 : Bytes
-delta3 = withdrawn q
+delta3 = withdrawing q
 
 -- output lent
 abbrev pub lent : Bytes
@@ -101,25 +103,25 @@ pub record Marked : Type 0 where
   -- empty to empty: no change
   pub k1 : constructOf [] [] (serial 0) 0 ≡ NoChange
   -- n = 0: serial 0 empty delta, serial 1 gets 6
-  pub k2 : (asks 0 (held p) [] 0 ≡ gets 0 []) × (asks 0 (held p) [] 1 ≡ getsSix)
+  pub k2 : (asks 0 (inSnapshot p) [] 0 ≡ gets 0 []) × (asks 0 (inSnapshot p) [] 1 ≡ getsSix)
   -- deltas 2, 1: serial 0 gets 6, 1 gets delta 2, 2 empty, 3 gets 6
-  pub k3 : (asks 2 (held q) (delta1 ∷ delta2 ∷ []) 0 ≡ getsSix)
-      × (asks 2 (held q) (delta1 ∷ delta2 ∷ []) 1 ≡ gets 2 delta2)
-      × (asks 2 (held q) (delta1 ∷ delta2 ∷ []) 2 ≡ gets 2 [])
-      × (asks 2 (held q) (delta1 ∷ delta2 ∷ []) 3 ≡ getsSix)
+  pub k3 : (asks 2 (inSnapshot q) (delta1 ∷ delta2 ∷ []) 0 ≡ getsSix)
+      × (asks 2 (inSnapshot q) (delta1 ∷ delta2 ∷ []) 1 ≡ gets 2 delta2)
+      × (asks 2 (inSnapshot q) (delta1 ∷ delta2 ∷ []) 2 ≡ gets 2 [])
+      × (asks 2 (inSnapshot q) (delta1 ∷ delta2 ∷ []) 3 ≡ getsSix)
   -- delta 1 alone: serial 0 gets delta 1
-  pub k4 : asks 1 (held p) (delta1 ∷ []) 0 ≡ gets 1 delta1
+  pub k4 : asks 1 (inSnapshot p) (delta1 ∷ []) 0 ≡ gets 1 delta1
   -- deltas 3, 2, 1: serial 1 gets 2 merged with 3
   pub k5 : asks 3 [] (delta1 ∷ delta2 ∷ delta3 ∷ []) 1 ≡ gets 3 (mergedOf delta2 delta3)
-  -- delta 1 alone, serial 2,147,483,649: 6
-  pub k6 : asks 1 (held p) (delta1 ∷ []) 2_147_483_649 ≡ getsSix
+  -- delta 1 alone, serial 2,147,483,649: 6; by RFC 1982 the two are unordered
+  pub k6 : (asks 1 (inSnapshot p) (delta1 ∷ []) 2_147_483_649 ≡ getsSix) × (standing (serial 2_147_483_649) (serial 1) ≡ Unordered)
   -- deltas 0, 4,294,967,295, 4,294,967,294: serial 4,294,967,294 gets the last two merged
   pub k7 : asks 0 [] (delta1 ∷ delta2 ∷ delta3 ∷ []) 4_294_967_294 ≡ gets 0 (mergedOf delta2 delta3)
   -- withdraw(p) then announce p: nothing
-  pub k8 : merges (withdrawn p) (announced p) ≡ into []
+  pub k8 : merges (withdrawing p) (announcing p) ≡ into []
   -- withdraw {64497} then announce {64498}: update({64497})
-  pub k9 : merges (withdrawn p) (announced q) ≡ into (updated p q)
+  pub k9 : merges (withdrawing p) (announcing q) ≡ into (updating p q)
   -- announce {64497} then update to {64498}: announce {64498}
-  pub k10 : merges (announced p) (updated p q) ≡ into (announced q)
+  pub k10 : merges (announcing p) (updating p q) ≡ into (announcing q)
   -- timing (0, 0, 0): (1, 1, 600)
   pub k11 : timingOf (seconds 0 0 0) ≡ seconds 1 1 600

@@ -22,13 +22,14 @@ use Rattle.delta.specs.Answer.{countsOf, outAfter}
 use Rattle.past.specs.declared.state.History.{History}
 use Rattle.past.specs.declared.query.Answer.the-variants.{Refused, Served}
 use Rattle.past.specs.declared.query.Queried.{Queried}
+use Rattle.past.specs.Start.{startSerial}
 use Rattle.past.specs.Store.{heldDeltas}
 use Rattle.past.specs.WellFormed.{wellFormed}
 
--- with n deltas, is a serial served that is d steps before the newest: with n = 0 only the serial 0 is,
+-- with n deltas, is a serial served that is d steps before the newest: with n = 0 only that of a fresh history is,
 -- with n above 0 d = 0, d = 1, and d from 2 to n - 1
 abbrev pub isServed : ℕ → Serial → ℕ → Bool
-isServed n asked d = cond (eqb n 0) (eqb (asked .0) 0) (eqb d 0 || eqb d 1 || (leb 2 d && leb d (n - 1)))
+isServed n asked d = cond (eqb n 0) (eqb (asked .0) (startSerial .0)) (eqb d 0 || eqb d 1 || (leb 2 d && leb d (n - 1)))
 
 -- the session must equal the history's modulo 65,536
 abbrev pub isSession : History → Session → Bool

@@ -12,7 +12,7 @@ use Rattle.item.specs.declared.sink.Counts.{Counts}
 use Rattle.delta.specs.Shortest.{LeadsTo, NoLonger, Balance}
 use Rattle.past.specs.declared.query.Answer.the-variants.{Served}
 use Rattle.past.specs.Run.{Run, carried}
-use Rattle.past.specs.Promise.{asks, outputOf, current}
+use Rattle.past.specs.Promise.{queriedIn, writtenIn, current}
 
 pub record ShortestHome (given : List Bytes) (now : Bytes) (asked : Serial) (answer : Bytes) : Type 0 where
   -- the snapshot that most recently carried the serial asked for
@@ -27,5 +27,5 @@ pub record ShortestHome (given : List Bytes) (now : Bytes) (asked : Serial) (ans
 -- once a first snapshot is accepted, each served query leaves such an answer in its output
 pub record Shortest (r : Run) : Type 0 where
   pub home : (s : Session) (asked : Serial) (out : Bytes) (c : Counts) → asked .0 < 2 ^ 32 → ¬ (r .given ≡ []) →
-      asks (r .world) s asked (length out) .answer ≡ Served c →
-      ShortestHome (r .given) (current (r .world)) asked (outputOf (r .world) s asked out c)
+      queriedIn (r .world) s asked (length out) .answer ≡ Served c →
+      ShortestHome (r .given) (current (r .world)) asked (writtenIn (r .world) s asked out c)

@@ -1,0 +1,37 @@
+-- A refusal is known by document 01's number, argument and offset.
+use Prim.Native.Nat.{ℕ}
+use mathlib.Core.Path.{_≡_, refl, sym, ap, _∙_}
+use mathlib.Core.Bool.{cond}
+use lib.Dec.{eqb}
+use Rattle.delta.specs.declared.refusal.Refusal.{Refusal}
+use Rattle.delta.specs.declared.refusal.Refusal.the-variants.{Bad, NotAbove, CannotApply, NoRoom, OtherSession, NotServed, IllFormed, BadKeep, StoreFull, TooLong}
+use Rattle.delta.specs.Refusal.{Values, valuesOf}
+
+-- the refusal that has these
+abbrev named : Values → Refusal
+named x =
+    cond (eqb (x .number) 1) (Bad (x .argument) (x .offset))
+    (cond (eqb (x .number) 2) (NotAbove (x .argument) (x .offset))
+    (cond (eqb (x .number) 3) (CannotApply (x .offset))
+    (cond (eqb (x .number) 4) NoRoom
+    (cond (eqb (x .number) 5) OtherSession
+    (cond (eqb (x .number) 6) NotServed
+    (cond (eqb (x .number) 7) IllFormed
+    (cond (eqb (x .number) 8) BadKeep
+    (cond (eqb (x .number) 9) StoreFull
+    (TooLong (x .argument))))))))))
+
+named-back : (r : Refusal) → named (valuesOf r) ≡ r
+named-back (Bad argument at) = refl
+named-back (NotAbove argument at) = refl
+named-back (CannotApply at) = refl
+named-back NoRoom = refl
+named-back OtherSession = refl
+named-back NotServed = refl
+named-back IllFormed = refl
+named-back BadKeep = refl
+named-back StoreFull = refl
+named-back (TooLong argument) = refl
+
+pub same-refusal : (r q : Refusal) → valuesOf r ≡ valuesOf q → r ≡ q
+same-refusal r q e = sym (named-back r) ∙ ap named e ∙ named-back q
