@@ -68,7 +68,7 @@ static uint32_t do_update(void)
 static uint32_t do_query(void)
 {
     taplevung_session session = {(uint16_t)state.session};
-    taplevung_serial oldest = {state.newest.value - (state.n - 1)};
+    taplevung_serial oldest = {state.newest.value - state.n};
     return taplevung_query(state, session, oldest, snapshots, STORE, deltas, STORE, out, STORE).answer.kind;
 }
 static uint32_t do_full(void)

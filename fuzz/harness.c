@@ -461,7 +461,7 @@ static void query(struct input *in, struct history *h, uint32_t places)
     const taplevung_answer *a = &told.answer;
     note(4, a);
     uint32_t d = s->newest.value - serial.value;
-    int served = s->n == 0 ? serial.value == 0 : d <= 1 || d < s->n;
+    int served = s->n == 0 ? serial.value == 0 : d <= s->n;
     uint32_t number = !formed(h) ? 7 : session.value != (uint16_t)s->session ? 5 : !served ? 6 : 0;
     if (number != 0) {
         LAW(refused_with(a, number, 0, 0) && told.session.value == 0 && same_from(2, out, 0));

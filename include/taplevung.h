@@ -55,7 +55,7 @@ enum {
     TAPLEVUNG_DOES_NOT_FIT = 3,  /* an item of the delta cannot be applied to the snapshot */
     TAPLEVUNG_NO_ROOM = 4,       /* the answer is longer than the output */
     TAPLEVUNG_OTHER_SESSION = 5, /* the query names another session */
-    TAPLEVUNG_NOT_SERVED = 6,    /* no delta from the query's serial is held */
+    TAPLEVUNG_NOT_SERVED = 6,    /* the deltas since the query's serial are not held */
     TAPLEVUNG_ILL_FORMED = 7,    /* the state and the stores are no history */
     TAPLEVUNG_BAD_KEEP = 8,      /* a history keeps 1 to 64 deltas */
     TAPLEVUNG_STORE_FULL = 9,    /* the snapshot, or the deltas to be held, exceed their store */
@@ -191,7 +191,8 @@ taplevung_made taplevung_update(
     uint8_t *deltas, size_t deltas_length);
 
 /*
- * Writes the delta for a router that is at `serial` of `session`.
+ * Writes the delta for a router that is at `serial` of `session`. With n deltas held, n
+ * above 0, the serials 0 to n steps before the newest are served; with none held only 0.
  *
  * TAPLEVUNG_DONE: `session` and serial are those to name to the router; length,
  * announced and withdrawn are those of the delta written, which is empty if the router

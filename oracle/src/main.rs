@@ -64,6 +64,8 @@ struct Run {
     rust: u64,
     /// Times that the Rust served n = 1 at distance 2^31, a known difference (K6).
     known: u64,
+    /// Times that the Rust refused d = n with n at least 2, a known difference (E2).
+    reached: u64,
     /// Times that the Rust left an expire that is not larger than refresh and retry, a known difference (E5).
     raised: u64,
 }
@@ -81,6 +83,7 @@ impl Run {
             damages: BTreeMap::new(),
             rust: 0,
             known: 0,
+            reached: 0,
             raised: 0,
         }
     }
@@ -119,11 +122,12 @@ impl Run {
     fn summary(&self) -> String {
         let kinds: Vec<String> = self.kinds.iter().map(|(k, n)| format!("{k} {n}")).collect();
         format!(
-            "all equal: {} calls ({}), {} of them with the Rust too, K6 met {} times, E5 {} times, seed {}",
+            "all equal: {} calls ({}), {} of them with the Rust too, K6 met {} times, E2 {} times, E5 {} times, seed {}",
             self.calls(),
             kinds.join(", "),
             self.rust,
             self.known,
+            self.reached,
             self.raised,
             self.seed
         )
@@ -364,8 +368,10 @@ impl Run {
             let outcome = self.compare(&call)?;
             if outcome.answer.number != 4 {
                 let said = (outcome.answer.kind == 1).then_some((&outcome.answer, &outcome.bytes[2][..]));
+                let refused = || rust.since(asked.wrapping_add(shift), None, shift) == Some(true);
                 match rust.since(asked.wrapping_add(shift), said, shift) {
                     Some(false) if n == 1 && d == 0x8000_0000 => self.known += 1,
+                    Some(false) if n >= 2 && d == n && refused() => self.reached += 1,
                     agrees => self.with_rust(agrees, &call)?,
                 }
             }
@@ -585,8 +591,8 @@ impl Run {
         for name in DAMAGES.iter().map(|(name, _)| name).chain(ILL) {
             enough(format!("\"{name}\""), self.damages.get(name), 100)?;
         }
-        if cfg!(routinator) && (self.known == 0 || self.raised == 0) {
-            return Err("too few cases: K6 or E5 was not met".into());
+        if cfg!(routinator) && [self.known, self.reached, self.raised].contains(&0) {
+            return Err("too few cases: K6, E2 or E5 was not met".into());
         }
         Ok(())
     }

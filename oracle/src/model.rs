@@ -252,7 +252,7 @@ impl History {
     pub fn since(&self, newest: u32, serial: u32) -> Result<Delta, Refused> {
         let n = self.deltas.len();
         let d = newest.wrapping_sub(serial) as usize;
-        let served = if n == 0 { serial == 0 } else { d == 0 || d == 1 || (2..n).contains(&d) };
+        let served = if n == 0 { serial == 0 } else { d <= n };
         if !served {
             return Err(Refused(6, 0, 0));
         }

@@ -58,8 +58,7 @@ fn k1_to_k7_serving() {
         // K2: inactive is tried below
         (0, 0, 0, Some(0)),
         (0, 0, 1, None),
-        // K3
-        (0, 2, 0, None),
+        // K3, but for serial 0: see e2_differs
         (0, 2, 1, Some(1)),
         (0, 2, 2, Some(2)),
         (0, 2, 3, None),
@@ -69,7 +68,7 @@ fn k1_to_k7_serving() {
         (0, 3, 1, Some(1)),
         // K7
         (4_294_967_293, 3, 4_294_967_294, Some(1)),
-        (4_294_967_293, 3, 4_294_967_293, None),
+        (4_294_967_293, 3, 4_294_967_292, None),
     ] {
         let (history, snapshots) = history(start, changes);
         let last = snapshots.last().expect("one at least");
@@ -90,6 +89,22 @@ fn k6_differs() {
     let served = history.since(2_147_483_649).expect("the Rust serves it");
     assert_eq!((served.bytes, served.serial), (vec![], 2_147_483_649));
     assert_eq!(model_since(0, &snapshots, 2_147_483_649), None);
+}
+
+/// A router one step behind the oldest delta, of two or more: 01's K3 as 02 changes it, and over the wrap.
+#[test]
+fn e2_differs() {
+    for (start, changes) in [(0, 2), (0, 5), (4_294_967_293, 3)] {
+        let (history, snapshots) = history(start, changes);
+        let last = snapshots.last().expect("one at least");
+        assert_eq!(history.since(start), None);
+        assert_eq!(model_since(start, &snapshots, start), Some(difference(&snapshots[0], last)));
+        assert_eq!(model_since(start, &snapshots, start.wrapping_sub(1)), None);
+    }
+    let (history, snapshots) = history(0, 1);
+    let all = Some(difference(&snapshots[0], &snapshots[1]));
+    assert_eq!(history.since(0).map(|s| s.bytes), all);
+    assert_eq!(model_since(0, &snapshots, 0), all);
 }
 
 #[test]

@@ -89,6 +89,9 @@ impl History {
 
     /// Writes the delta for a router that is at `serial` of `session`. It is empty if the router is
     /// up to date.
+    ///
+    /// A router may be as many steps behind as deltas are held; one further behind, or ahead, is
+    /// refused with [`Refusal::NotServed`].
     pub fn query(&self, session: Session, serial: Serial, out: &mut [u8]) -> Result<Served, Refusal> {
         let told = raw::query(self.state, session, serial, &self.snapshots, &self.deltas, out);
         Refusal::check(&told.answer)?;

@@ -19,7 +19,7 @@ pub enum Refusal {
     NoRoom,
     /// 5: the query names another session.
     OtherSession,
-    /// 6: no delta from the query's serial is held.
+    /// 6: the deltas since the query's serial are not held.
     NotServed,
     /// 7: the state and the stores are no history.
     IllFormed,
@@ -106,7 +106,7 @@ impl fmt::Display for Refusal {
             }
             Refusal::NoRoom => f.write_str("the answer is longer than the output"),
             Refusal::OtherSession => f.write_str("the query names another session"),
-            Refusal::NotServed => f.write_str("no delta from the query's serial is held"),
+            Refusal::NotServed => f.write_str("the deltas since the query's serial are not held"),
             Refusal::IllFormed => f.write_str("the state and the stores are no history"),
             Refusal::BadKeep => f.write_str("a history keeps 1 to 64 deltas"),
             Refusal::StoreFull => f.write_str("the snapshot, or the deltas to be held, exceed their store"),

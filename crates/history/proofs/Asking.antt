@@ -1,12 +1,12 @@
 -- Laws of the query.
-use Prim.Native.Nat.{ℕ, zero, suc, _-_, _≤_, _<_}
+use Prim.Native.Nat.{ℕ, _≤_}
 use mathlib.Core.Path.{_≡_, refl, sym, ap, _∙_}
 use mathlib.Core.List.{List, [], _∷_}
-use mathlib.Core.Bool.{Bool, true, false, not, cond, _&&_, _||_}
+use mathlib.Core.Bool.{Bool, true, false, not, cond, _&&_}
 use native.Mathlib.Omega.{arith}
-use lib.Dec.{leb, ltb, eqb}
+use lib.Dec.{leb, eqb}
 use lib.ListN.{length, take}
-use borrow.Author.Tests.{not-true, not-false, leb-true, le-leb, lt-leb, ltb-true, ltb-false, eqb-true, eq-eqb, ne-eqb}
+use borrow.Author.Tests.{not-true, not-false, leb-true, le-leb, lt-leb, eqb-true, eq-eqb, ne-eqb}
 use Rattle.order.specs.Map.{All}
 use Rattle.serial.specs.declared.Serial.{Serial}
 use Rattle.serial.specs.declared.Session.{Session}
@@ -47,24 +47,10 @@ module _ (n : ℕ) (asked : Serial) (d : ℕ) where
   pub served-start : n ≡ 0 → eqb (asked .0) 0 ≡ isServed n asked d
   served-start e = rw (eq-eqb n 0 e)
 
-  module _ (h : n ≡ 0 → ⊥) where
-    pub served-near : d < 2 → true ≡ isServed n asked d
-    served-near k = rw (ne-eqb n 0 h) (go d k)
-      where
-        go : (m : ℕ) → m < 2 → true ≡ (eqb m 0 || eqb m 1 || (leb 2 m && leb m (n - 1)))
-        go zero k = refl
-        go (suc zero) k = refl
-        go (suc (suc m)) k = absurd (omega arith)
+  pub served-held : (n ≡ 0 → ⊥) → leb d n ≡ isServed n asked d
+  served-held h = rw (ne-eqb n 0 h)
 
-    pub served-far : 2 ≤ d → ltb d n ≡ isServed n asked d
-    served-far k =
-        rw (ne-eqb n 0 h, ne-eqb d 0 (omega arith), ne-eqb d 1 (omega arith), le-leb 2 d k) (go (ltb d n) refl)
-      where
-        go : (t : Bool) → ltb d n ≡ t → t ≡ leb d (n - 1)
-        go true e = sym (le-leb d (n - 1) (omega (arith, ltb-true d n e)))
-        go false e = sym (lt-leb d (n - 1) (omega (arith, ltb-false d n e)))
-
-pub ruleset testing = (session-is, served-start, served-near, served-far)
+pub ruleset testing = (session-is, served-start, served-held)
 
 -- ---- 7, then 5, then 6
 

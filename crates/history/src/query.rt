@@ -48,10 +48,7 @@ fn is_served(n: u32, asked: Serial, d: u32) -> bool
     if n == 0 {
         return asked.0 == 0;
     }
-    if d < 2 {
-        return true;
-    }
-    d < n
+    d <= n
 }
 
 // Refusals 7, 5 and 6.

@@ -104,8 +104,8 @@ pub record Marked : Type 0 where
   pub k1 : constructOf [] [] (serial 0) 0 ≡ NoChange
   -- n = 0: serial 0 empty delta, serial 1 gets 6
   pub k2 : (asks 0 (inSnapshot p) [] 0 ≡ gets 0 []) × (asks 0 (inSnapshot p) [] 1 ≡ getsSix)
-  -- deltas 2, 1: serial 0 gets 6, 1 gets delta 2, 2 empty, 3 gets 6
-  pub k3 : (asks 2 (inSnapshot q) (delta1 ∷ delta2 ∷ []) 0 ≡ getsSix)
+  -- deltas 2, 1: serial 0 gets 1 merged with 2, 1 gets delta 2, 2 empty, 3 gets 6
+  pub k3 : (asks 2 (inSnapshot q) (delta1 ∷ delta2 ∷ []) 0 ≡ gets 2 (mergedOf delta1 delta2))
       × (asks 2 (inSnapshot q) (delta1 ∷ delta2 ∷ []) 1 ≡ gets 2 delta2)
       × (asks 2 (inSnapshot q) (delta1 ∷ delta2 ∷ []) 2 ≡ gets 2 [])
       × (asks 2 (inSnapshot q) (delta1 ∷ delta2 ∷ []) 3 ≡ getsSix)

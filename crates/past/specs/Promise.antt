@@ -101,9 +101,7 @@ pub record Updates (keep : ℕ) (w : World) (given : List Bytes) (new : Bytes) :
 -- the serials that are served, where n deltas are held and the serial s is d steps before the newest
 pub data Rule (n s d : ℕ) : Type 0 where
   none-held : n ≡ 0 → s ≡ startSerial .0 → Rule n s d
-  newest-held : 1 ≤ n → d ≡ 0 → Rule n s d
-  one-before : 1 ≤ n → d ≡ 1 → Rule n s d
-  more-before : 2 ≤ d → d ≤ n - 1 → Rule n s d
+  some-held : 1 ≤ n → d ≤ n → Rule n s d
 
 -- by the counts of a run
 abbrev pub InRule : ℕ → List Bytes → Serial → Type 0

@@ -1,7 +1,7 @@
 -- The query of a serial.
-use Prim.Native.Nat.{ℕ, _-_}
+use Prim.Native.Nat.{ℕ}
 use mathlib.Core.List.{List, map}
-use mathlib.Core.Bool.{Bool, true, false, cond, _&&_, _||_}
+use mathlib.Core.Bool.{Bool, true, false, cond}
 use lib.Dec.{leb, eqb}
 use lib.ListN.{length}
 use Rattle.order.specs.Comparison.{bytes}
@@ -27,9 +27,9 @@ use Rattle.past.specs.Store.{heldDeltas}
 use Rattle.past.specs.WellFormed.{wellFormed}
 
 -- with n deltas, is a serial served that is d steps before the newest: with n = 0 only that of a fresh history is,
--- with n above 0 d = 0, d = 1, and d from 2 to n - 1
+-- with n above 0 d from 0 to n
 abbrev pub isServed : ℕ → Serial → ℕ → Bool
-isServed n asked d = cond (eqb n 0) (eqb (asked .0) (startSerial .0)) (eqb d 0 || eqb d 1 || (leb 2 d && leb d (n - 1)))
+isServed n asked d = cond (eqb n 0) (eqb (asked .0) (startSerial .0)) (leb d n)
 
 -- the session must equal the history's modulo 65,536
 abbrev pub isSession : History → Session → Bool

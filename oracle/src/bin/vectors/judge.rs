@@ -14,6 +14,8 @@ pub struct Judge {
     pub agreed: usize,
     /// Times that the Rust served n = 1 at distance 2^31, a known difference.
     pub k6: usize,
+    /// Times that the Rust refused d = n with n at least 2, a known difference.
+    pub reached: usize,
     /// Times that the Rust left an expire that is not larger than refresh and retry, a known difference.
     pub raised: usize,
     /// Refusals: the entry, the number, the argument.
@@ -138,10 +140,16 @@ impl Judge {
         let Some(Beside { rust, .. }) = &self.beside else { return };
         let asked = call.numbers[1] as u32;
         let (said, served) = (rust.since(asked), rust.diff(asked));
-        let k6 = call.state.n == 1 && call.state.newest.wrapping_sub(asked) == 1 << 31;
+        let (n, d) = (call.state.n, call.state.newest.wrapping_sub(asked));
+        let k6 = n == 1 && d == 1 << 31;
         if k6 && outcome.answer.number == 6 {
             assert!(said.is_some_and(|s| s.bytes.is_empty()), "the Rust does not do what K6 says of it");
             self.k6 += 1;
+            return;
+        }
+        if n >= 2 && d == n && [0, 4].contains(&outcome.answer.number) {
+            assert!(said.is_none() && served == (false, false), "the Rust does not do what E2 says of it");
+            self.reached += 1;
             return;
         }
         let same = match outcome.answer.number {
@@ -228,6 +236,7 @@ impl Judge {
         }
         assert_eq!(self.edges.len(), 2, "not met: the wrap or the middle of the serials");
         assert!(self.k6 > 0, "not met: K6");
+        assert!(self.reached > 0, "not met: E2");
         assert!(self.raised > 0, "not met: E5");
     }
 }

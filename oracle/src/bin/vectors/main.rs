@@ -22,9 +22,13 @@ fn main() -> ExitCode {
     };
     let (mut judge, mut answers) = (judge::Judge::default(), String::new());
     let lists = [list::cases(), list::runs()].map(|list| {
-        let (agreed, k6, raised) = (judge.agreed, judge.k6, judge.raised);
+        let (agreed, k6, reached, raised) = (judge.agreed, judge.k6, judge.reached, judge.raised);
         answers += &play(&list, check_by_model, |call| judge.run(call));
-        let known = [("K6", judge.k6 - k6), ("E5's expire", judge.raised - raised)];
+        let known = [
+            ("K6", judge.k6 - k6),
+            ("E2's oldest delta", judge.reached - reached),
+            ("E5's expire", judge.raised - raised),
+        ];
         list::head(&list, judge.agreed - agreed, &known) + &list
     });
     judge.met_all();

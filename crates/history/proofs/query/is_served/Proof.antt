@@ -9,8 +9,5 @@ returns c = search (testing, needs)
 returns-2 : tie.Need-returns-2
 returns-2 c = search (testing, needs)
 
-returns-3 : tie.Need-returns-3
-returns-3 c = search (testing, needs)
-
 pub is-served-spec : {M : Type 1} → statement M
-is-served-spec = tie.close (tie.spec returns returns-2 returns-3)
+is-served-spec = tie.close (tie.spec returns returns-2)
