@@ -450,12 +450,14 @@ impl Run {
             _ => rng.below(70) as u32,
         };
         let (session, snapshots, deltas) = (rng.next(), rng.below(3), rng.below(3));
-        self.compare(&Call::create(session, keep, vec![7; snapshots], vec![7; deltas]))?;
+        let start = serial(rng);
+        self.compare(&Call::create(session, keep, start, vec![7; snapshots], vec![7; deltas]))?;
         let state = State {
             session,
             keep,
             active: *rng.pick(&[0, 1, 2, 256, 65_536, 1 << 31, u32::MAX]),
             newest: rng.next() as u32,
+            start,
             n: rng.next() as u32,
             snapshot: rng.next() as u32,
             deltas: std::array::from_fn(|_| rng.next() as u32),
