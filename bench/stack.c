@@ -59,7 +59,7 @@ static uint32_t do_apply(void)
 }
 static uint32_t do_create(void)
 {
-    return taplevung_create(1, 64, snapshots, STORE, deltas, STORE).answer.kind;
+    return taplevung_create(1, 64, zero, snapshots, STORE, deltas, STORE).answer.kind;
 }
 static uint32_t do_update(void)
 {
@@ -111,7 +111,7 @@ __attribute__((noinline)) static size_t stack_of(int call)
 /* A history of n deltas over these inputs. */
 static int history(uint32_t n)
 {
-    state = taplevung_create(7, 64, snapshots, STORE, deltas, STORE).state;
+    state = taplevung_create(7, 64, zero, snapshots, STORE, deltas, STORE).state;
     for (uint32_t step = 0; step <= n; step++) {
         const uint8_t *new_snapshot = step % 2 ? next : snapshot;
         size_t length = step % 2 ? next_length : snapshot_length;

@@ -415,6 +415,7 @@ static void update(struct input *in, struct history *h, uint32_t places)
             LAW(accepted(a) && a->kind == (s.active ? 3 : 1));
             LAW(made.state.session == s.session && made.state.keep == s.keep && made.state.active == 1);
             LAW(made.state.snapshot == length && made.state.newest.value == a->serial.value);
+            LAW(made.state.start.value == s.start.value);
             LAW(equal(snapshots.bytes, length, scratch[0], length) && same_from(1, snapshots, length));
             if (s.active) {
                 LAW(a->serial.value == s.newest.value + 1 && a->length == added && counted(a, scratch[1]));
@@ -461,7 +462,7 @@ static void query(struct input *in, struct history *h, uint32_t places)
     const taplevung_answer *a = &told.answer;
     note(4, a);
     uint32_t d = s->newest.value - serial.value;
-    int served = s->n == 0 ? serial.value == 0 : d <= s->n;
+    int served = s->n == 0 ? serial.value == s->start.value : d <= s->n;
     uint32_t number = !formed(h) ? 7 : session.value != (uint16_t)s->session ? 5 : !served ? 6 : 0;
     if (number != 0) {
         LAW(refused_with(a, number, 0, 0) && told.session.value == 0 && same_from(2, out, 0));
@@ -546,6 +547,9 @@ static void tamper(struct input *in, struct history *h)
         h->deltas_length = s->n <= 64 ? (size_t)held(s) % (sizeof h->deltas - 4) + value % 3 : 0;
         break;
     case 12:
+        s->start.value = value & 128 ? u32(in) : s->newest.value + value % 3;
+        break;
+    case 13:
         h->snapshots_length = sizeof h->snapshots;
         h->deltas_length = sizeof h->deltas;
         break;
@@ -561,13 +565,15 @@ static void history(struct input *in)
     static struct history h;
     memset(h.snapshots, 0xb6, SHORT_SNAPSHOTS);
     memset(h.deltas, 0xb7, SHORT_DELTAS);
-    uint32_t sizes = u8(in), keep = u8(in) % 67;
+    uint32_t sizes = u8(in), keep = u8(in) % 67, near = u8(in);
+    /* 0, or within 31 of the middle or the wrap */
+    taplevung_serial start = {near < 128 ? 0 : (near & 64 ? 0x80000000u : 0) - 31 + (near & 63)};
     h.snapshots_length = sizes & 15 ? SHORT_SNAPSHOTS : 1 + u8(in);
     h.deltas_length = sizes >> 4 ? SHORT_DELTAS : u8(in);
     struct slice snapshots = lend(0, h.snapshots, h.snapshots_length, sizes & 1, 0);
     struct slice deltas = lend(1, h.deltas, h.deltas_length, sizes & 2, 0);
     taplevung_made made =
-        taplevung_create(0x10000 + sizes, keep, snapshots.bytes, snapshots.length, deltas.bytes, deltas.length);
+        taplevung_create(0x10000 + sizes, keep, start, snapshots.bytes, snapshots.length, deltas.bytes, deltas.length);
     note(6, &made.answer);
     taplevung_state fresh = {0};
     if (keep < 1 || keep > 64) {
@@ -575,7 +581,9 @@ static void history(struct input *in)
     } else {
         fresh.session = 0x10000 + sizes;
         fresh.keep = keep;
+        fresh.newest = fresh.start = start;
         LAW(accepted(&made.answer) && made.answer.kind == 1 && made.answer.length == 0);
+        LAW(made.answer.serial.value == start.value);
     }
     LAW(memcmp(&made.state, &fresh, offsetof(taplevung_state, deltas) + sizeof fresh.deltas) == 0);
     h.state = fresh;

@@ -267,7 +267,7 @@ static int well_formed(const taplevung_state *s, const uint8_t *snapshots, size_
 {
     if (s->keep < 1 || s->keep > 64 || s->n > s->keep)
         return 0;
-    if ((!s->active || s->n == 0) && s->newest.value != 0)
+    if ((!s->active || s->n == 0) && s->newest.value != s->start.value)
         return 0;
     if (!s->active && (s->n != 0 || s->snapshot != 0))
         return 0;

@@ -43,7 +43,7 @@ enum {
     TAPLEVUNG_DONE = 1,      /* merge, apply, create, query, full */
     TAPLEVUNG_DELTA = 1,     /* construct: a delta was written */
     TAPLEVUNG_NO_CHANGE = 2, /* construct: the snapshots are equal, nothing was written */
-    TAPLEVUNG_FIRST = 1,     /* update: the history's first snapshot, the serial stays 0 */
+    TAPLEVUNG_FIRST = 1,     /* update: the history's first snapshot, the serial stays */
     TAPLEVUNG_UNCHANGED = 2, /* update: the snapshot is the one that is held already */
     TAPLEVUNG_CHANGED = 3    /* update: a delta was added, the serial is one higher */
 };
@@ -82,6 +82,7 @@ typedef struct {
     uint32_t keep;           /* how many deltas are kept, 1 to 64 */
     uint32_t active;         /* 0 until the first snapshot; then 1 (any other number will do) */
     taplevung_serial newest; /* the serial of the held snapshot */
+    taplevung_serial start;  /* the serial that the history started with */
     uint32_t n;              /* how many deltas are held, at most keep */
     uint32_t snapshot;       /* the length of the held snapshot */
     uint32_t deltas[64];     /* the lengths of the held deltas; those past n are ignored */
@@ -161,15 +162,17 @@ taplevung_answer taplevung_apply(
     uint8_t *out, size_t out_length);
 
 /*
- * Makes a history with no snapshot yet. The stores are only measured; their bytes are
- * neither read nor written.
+ * Makes a history with no snapshot yet, whose first serial is `start`: 0, or after a
+ * planned restart the serial that goes on from the history before, under a new session.
+ * The stores are only measured; their bytes are neither read nor written.
  *
- * TAPLEVUNG_DONE: every other number of the answer is 0, and `state` is the new history.
+ * TAPLEVUNG_DONE: serial is `start`, every other number of the answer is 0, and `state`
+ * is the new history.
  * Refused: `state` is all zero. Refusals: 8, then 10 (argument 1 the snapshot store, 2
  * the delta store).
  */
 taplevung_made taplevung_create(
-    uint64_t session, uint32_t keep,
+    uint64_t session, uint32_t keep, taplevung_serial start,
     const uint8_t *snapshots, size_t snapshots_length,
     const uint8_t *deltas, size_t deltas_length);
 
@@ -192,7 +195,8 @@ taplevung_made taplevung_update(
 
 /*
  * Writes the delta for a router that is at `serial` of `session`. With n deltas held, n
- * above 0, the serials 0 to n steps before the newest are served; with none held only 0.
+ * above 0, the serials 0 to n steps before the newest are served; with none held only
+ * the start serial.
  *
  * TAPLEVUNG_DONE: `session` and serial are those to name to the router; length,
  * announced and withdrawn are those of the delta written, which is empty if the router

@@ -99,7 +99,7 @@ static int give(const void *from, size_t n)
 static void call(const struct request *q, uint8_t *const s[3], struct reply *r)
 {
     const size_t *n = q->lengths;
-    taplevung_serial serial = {(uint32_t)q->numbers[q->entry == QUERY]};
+    taplevung_serial serial = {(uint32_t)q->numbers[q->entry == QUERY]}, start = {(uint32_t)q->numbers[2]};
     taplevung_session session = {(uint16_t)q->numbers[0]};
     taplevung_made made;
     taplevung_told told;
@@ -116,7 +116,7 @@ static void call(const struct request *q, uint8_t *const s[3], struct reply *r)
     case CREATE:
     case UPDATE:
         made = q->entry == CREATE
-                   ? taplevung_create(q->numbers[0], (uint32_t)q->numbers[1], s[0], n[0], s[1], n[1])
+                   ? taplevung_create(q->numbers[0], (uint32_t)q->numbers[1], start, s[0], n[0], s[1], n[1])
                    : taplevung_update(q->state, s[0], n[0], s[1], n[1], s[2], n[2]);
         r->answer = made.answer;
         r->state = made.state;

@@ -226,7 +226,7 @@ impl Held {
     /// It keeps this many deltas and has taken `n` after its first snapshot.
     fn new(data: Data, keep: u32, n: u32) -> Self {
         let (snapshots, deltas) = (vec![0; SNAPSHOT_LIMIT], vec![0; DELTA_LIMIT]);
-        let state = raw::create(7, keep, &snapshots, &deltas).state;
+        let state = raw::create(7, keep, Serial(0), &snapshots, &deltas).state;
         let mut held = Held { state, snapshots, deltas };
         (0..=n).for_each(|step| held.update(&data.snapshot(step)));
         held

@@ -110,7 +110,7 @@ fn make(call: &Call, [a, b, c]: [&mut [u8]; 3], left: &mut Outcome) {
         Entry::Construct => left.answer = answer(raw::construct(a, b, Serial(first), c)),
         Entry::Merge => left.answer = answer(raw::merge(a, b, Serial(first), c)),
         Entry::Apply => left.answer = answer(raw::apply(a, b, c)),
-        Entry::Create => made(raw::create(call.numbers[0], second, a, b), left),
+        Entry::Create => made(raw::create(call.numbers[0], second, Serial(third), a, b), left),
         Entry::Update => made(raw::update(state, a, b, c), left),
         Entry::Query => told(raw::query(state, Session(first as u16), Serial(second), a, b, c), left),
         Entry::Full => told(raw::full(state, a, b), left),
@@ -143,11 +143,12 @@ fn answer(said: raw::Answer) -> Answer {
 }
 
 fn given(state: &State) -> raw::State {
-    let State { session, keep, active, newest, n, snapshot, deltas } = *state;
-    raw::State { session, keep, active, newest: Serial(newest), n, snapshot, deltas }
+    let State { session, keep, active, newest, start, n, snapshot, deltas } = *state;
+    let [newest, start] = [newest, start].map(Serial);
+    raw::State { session, keep, active, newest, start, n, snapshot, deltas }
 }
 
 fn held(state: &raw::State) -> State {
-    let raw::State { session, keep, active, newest, n, snapshot, deltas } = *state;
-    State { session, keep, active, newest: newest.0, n, snapshot, deltas }
+    let raw::State { session, keep, active, newest, start, n, snapshot, deltas } = *state;
+    State { session, keep, active, newest: newest.0, start: start.0, n, snapshot, deltas }
 }

@@ -24,6 +24,7 @@ pub struct State {
     pub keep: u32,
     pub active: u32,
     pub newest: u32,
+    pub start: u32,
     pub n: u32,
     pub snapshot: u32,
     pub deltas: [u32; 64],
@@ -31,7 +32,7 @@ pub struct State {
 
 impl State {
     pub const ZERO: State =
-        State { session: 0, keep: 0, active: 0, newest: 0, n: 0, snapshot: 0, deltas: [0; 64] };
+        State { session: 0, keep: 0, active: 0, newest: 0, start: 0, n: 0, snapshot: 0, deltas: [0; 64] };
 
     /// The lengths of the held deltas; `n` must be at most 64.
     pub fn held(&self) -> &[u32] {
@@ -85,8 +86,9 @@ impl Call {
     pub fn apply(snapshot: Vec<u8>, delta: Vec<u8>, out: Vec<u8>) -> Self {
         Self::new(Entry::Apply, State::ZERO, [0; 3], [snapshot, delta, out])
     }
-    pub fn create(session: u64, keep: u32, snapshots: Vec<u8>, deltas: Vec<u8>) -> Self {
-        Self::new(Entry::Create, State::ZERO, [session, keep.into(), 0], [snapshots, deltas, vec![]])
+    pub fn create(session: u64, keep: u32, start: u32, snapshots: Vec<u8>, deltas: Vec<u8>) -> Self {
+        let numbers = [session, keep.into(), start.into()];
+        Self::new(Entry::Create, State::ZERO, numbers, [snapshots, deltas, vec![]])
     }
     pub fn update(state: State, new: Vec<u8>, snapshots: Vec<u8>, deltas: Vec<u8>) -> Self {
         Self::new(Entry::Update, state, [0; 3], [new, snapshots, deltas])
@@ -150,8 +152,8 @@ impl fmt::Debug for State {
     /// Without the zeros at the end of the lengths.
     fn fmt(&self, f: &mut fmt::Formatter<'_>) -> fmt::Result {
         let used = self.deltas.iter().rposition(|l| *l != 0).map_or(0, |at| at + 1);
-        let State { session, keep, active, newest, n, snapshot, deltas } = self;
-        write!(f, "session {session}, keep {keep}, active {active}, newest {newest}, n {n}, ")?;
+        let State { session, keep, active, newest, start, n, snapshot, deltas } = self;
+        write!(f, "session {session}, keep {keep}, active {active}, newest {newest}, start {start}, n {n}, ")?;
         write!(f, "snapshot {snapshot}, deltas {:?}", &deltas[..used])
     }
 }

@@ -237,21 +237,23 @@ pub fn ill_form(rng: &mut Rng, world: &mut World) -> &'static str {
             "n far above keep"
         }
         3 | 4 => {
-            let newest = 1 + rng.below(3) as u32;
-            (state.n, state.newest) = (0, newest);
-            "n = 0 with a serial"
+            // F is 0, or near the start serial
+            let newest = state.start.wrapping_add(1 + rng.below(3) as u32);
+            (state.n, state.newest) = (0, if state.start != 0 && rng.one_in(2) { 0 } else { newest });
+            "n = 0 with another serial"
         }
         5 => {
-            *state = crate::call::State { active: 0, n: 0, snapshot: 0, newest: 7, ..*state };
-            "inactive with a serial"
+            let newest = if state.start == 0 { 7 } else { 0 };
+            *state = crate::call::State { active: 0, n: 0, snapshot: 0, newest, ..*state };
+            "inactive with another serial"
         }
         6 => {
-            (state.active, state.newest, state.snapshot) = (0, 0, 0);
+            (state.active, state.newest, state.snapshot) = (0, state.start, 0);
             (state.keep, state.n) = (state.keep.max(1), state.n.max(1));
             "inactive with deltas"
         }
         7 => {
-            (state.active, state.newest, state.n) = (0, 0, 0);
+            (state.active, state.newest, state.n) = (0, state.start, 0);
             state.snapshot = state.snapshot.max(1);
             "inactive with a snapshot"
         }

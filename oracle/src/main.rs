@@ -279,15 +279,15 @@ impl Run {
         Ok(())
     }
 
-    /// A run of updates, with queries after each. Serials start near 0, 2^31 or 2^32: a history starts at
-    /// 0, and once it holds a delta its serial is moved, here and, by a stand-in, in the Rust.
+    /// A run of updates, with queries after each. Serials start near 0, 2^31 or 2^32, in the Rust by a
+    /// stand-in.
     fn history(&mut self, rng: &mut Rng) -> Checked {
         self.kind = "history";
         let universe = Universe::new(rng);
         let keep = if rng.one_in(2) { 1 + rng.below(3) } else { 1 + rng.below(64) } as u32;
         let start = serial(rng);
         let (session, snapshots, deltas) = (rng.next(), output(rng, 100), output(rng, 100));
-        let created = self.compare(&Call::create(session, keep, snapshots.clone(), deltas.clone()))?;
+        let created = self.compare(&Call::create(session, keep, start, snapshots.clone(), deltas.clone()))?;
         let mut world = World { state: created.state, snapshots, deltas };
         let rust = RustHistory::new(keep, start);
         let steps = if rng.one_in(10) { 90 } else { rng.below(12) };
@@ -300,13 +300,9 @@ impl Run {
             let call = world.update(next.clone());
             let outcome = self.compare(&call)?;
             let [_, snapshots, deltas] = outcome.bytes;
-            let first_delta = world.state.n == 0 && outcome.state.n == 1;
             world = World { state: outcome.state, snapshots, deltas };
             self.with_rust(rust.update(&next, outcome.answer.kind), &call)?;
-            if first_delta {
-                world.state.newest = start.wrapping_add(1);
-            }
-            self.questions(rng, &world, &rust, start)?;
+            self.questions(rng, &world, &rust)?;
             if rng.one_in(4) {
                 // any number but 0 is active, and unused lengths are ignored
                 world.state.active = 1 + rng.below(9) as u32;
@@ -337,16 +333,14 @@ impl Run {
         Ok(())
     }
 
-    fn questions(&mut self, rng: &mut Rng, world: &World, rust: &RustHistory, start: u32) -> Checked {
+    fn questions(&mut self, rng: &mut Rng, world: &World, rust: &RustHistory) -> Checked {
         let state = world.state;
         let session = state.session as u16;
         let full = self.compare(&world.full())?;
         let notice = self.compare(&Call::notify(state))?;
         let ready = self.compare(&Call::ready(state))?;
         let held = &world.snapshots[..full.answer.length as usize];
-        // while no delta is held the library is at 0 and the Rust at `start`
-        let shift = if state.n == 0 { start } else { 0 };
-        let [full, notified] = [&full, &notice].map(|o| o.answer.serial.wrapping_add(shift));
+        let [full, notified] = [&full, &notice].map(|o| o.answer.serial);
         self.with_rust(rust.full(full, held, notified, ready.numbers[0] == 1), &world.full())?;
         let n = state.n;
         for d in [
@@ -368,8 +362,8 @@ impl Run {
             let outcome = self.compare(&call)?;
             if outcome.answer.number != 4 {
                 let said = (outcome.answer.kind == 1).then_some((&outcome.answer, &outcome.bytes[2][..]));
-                let refused = || rust.since(asked.wrapping_add(shift), None, shift) == Some(true);
-                match rust.since(asked.wrapping_add(shift), said, shift) {
+                let refused = || rust.since(asked, None) == Some(true);
+                match rust.since(asked, said) {
                     Some(false) if n == 1 && d == 0x8000_0000 => self.known += 1,
                     Some(false) if n >= 2 && d == n && refused() => self.reached += 1,
                     agrees => self.with_rust(agrees, &call)?,
@@ -456,12 +450,14 @@ impl Run {
             _ => rng.below(70) as u32,
         };
         let (session, snapshots, deltas) = (rng.next(), rng.below(3), rng.below(3));
-        self.compare(&Call::create(session, keep, vec![7; snapshots], vec![7; deltas]))?;
+        let start = serial(rng);
+        self.compare(&Call::create(session, keep, start, vec![7; snapshots], vec![7; deltas]))?;
         let state = State {
             session,
             keep,
             active: *rng.pick(&[0, 1, 2, 256, 65_536, 1 << 31, u32::MAX]),
             newest: rng.next() as u32,
+            start,
             n: rng.next() as u32,
             snapshot: rng.next() as u32,
             deltas: std::array::from_fn(|_| rng.next() as u32),
@@ -500,8 +496,8 @@ impl Run {
             self.compare(&Call::merge(first(delta), over(delta), 0, out.clone()))?;
             self.compare(&Call::apply(first(snap), over(delta), out.clone()))?;
             // stores: 10 at creation, behind 8; 7 afterwards
-            self.compare(&Call::create(9, 0, first(snap), over(delta)))?;
-            self.compare(&Call::create(9, 1, first(snap), over(delta)))?;
+            self.compare(&Call::create(9, 0, 5, first(snap), over(delta)))?;
+            self.compare(&Call::create(9, 1, 5, first(snap), over(delta)))?;
             let state = State { session: 9, keep: 3, active: 1, ..State::ZERO };
             let world = World { state, snapshots: first(snap), deltas: over(delta) };
             self.compare(&world.full())?;
@@ -509,7 +505,7 @@ impl Run {
             self.compare(&world.update(bad.clone()))?;
         }
         let inactive = State { session: 9, keep: 3, ..State::ZERO };
-        self.compare(&Call::create(9, 64, vec![0; snap], vec![0; delta]))?;
+        self.compare(&Call::create(9, 64, 5, vec![0; snap], vec![0; delta]))?;
         self.compare(&Call::update(inactive, over(snap), vec![], vec![]))?;
         self.compare(&Call::update(State { newest: 1, ..inactive }, over(snap), vec![], vec![]))?;
         self.compare(&Call::full(State { active: 1, ..inactive }, over(snap), vec![]))?;
@@ -579,8 +575,8 @@ impl Run {
             "keep above 64",
             "n above keep",
             "n far above keep",
-            "n = 0 with a serial",
-            "inactive with a serial",
+            "n = 0 with another serial",
+            "inactive with another serial",
             "inactive with deltas",
             "inactive with a snapshot",
             "snapshot past its store",
@@ -656,11 +652,8 @@ impl RustHistory {
     }
 
     /// On a router at `asked`, which was served `said` or nothing.
-    fn since(&self, asked: u32, said: Option<(&Answer, &[u8])>, shift: u32) -> Option<bool> {
-        let mut want = said.map(|(answer, out)| served(answer, out));
-        if let Some(want) = &mut want {
-            want.serial = want.serial.wrapping_add(shift);
-        }
+    fn since(&self, asked: u32, said: Option<(&Answer, &[u8])>) -> Option<bool> {
+        let want = said.map(|(answer, out)| served(answer, out));
         let got = self.history.since(asked);
         Some(got == want && self.history.diff(asked) == (got.is_some(), false))
     }
@@ -677,7 +670,7 @@ impl RustHistory {
     fn full(&self, _: u32, _: &[u8], _: u32, _: bool) -> Option<bool> {
         None
     }
-    fn since(&self, _: u32, _: Option<(&Answer, &[u8])>, _: u32) -> Option<bool> {
+    fn since(&self, _: u32, _: Option<(&Answer, &[u8])>) -> Option<bool> {
         None
     }
 }

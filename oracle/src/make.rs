@@ -269,11 +269,13 @@ impl World {
         }
         let mut snapshots = model::snapshot_bytes(&now);
         let n = lengths.len() as u32;
+        let start = if rng.one_in(3) { 0 } else { serial(rng) };
         let state = State {
             session: rng.next(),
             keep,
             active: u32::from(active) * if rng.one_in(4) { 1 + rng.below(9) as u32 } else { 1 },
-            newest: if n > 0 { serial(rng) } else { 0 },
+            newest: if n > 0 { serial(rng) } else { start },
+            start,
             n,
             snapshot: snapshots.len() as u32,
             // unused lengths are ignored

@@ -219,6 +219,7 @@ pub fn apply(snapshot: &Snapshot, delta: &Delta) -> Result<Snapshot, Key> {
 pub struct History {
     pub now: Snapshot,
     pub deltas: Vec<Delta>,
+    pub start: u32,
 }
 
 /// Refusal 7, or what the history holds.
@@ -227,7 +228,7 @@ pub fn history(state: &State, snapshots: &[u8], deltas: &[u8]) -> Result<History
     if !(1..=64).contains(&state.keep) || state.n > state.keep {
         return Err(ill);
     }
-    if (state.active == 0 || state.n == 0) && state.newest != 0 {
+    if (state.active == 0 || state.n == 0) && state.newest != state.start {
         return Err(ill);
     }
     if state.active == 0 && (state.n != 0 || state.snapshot != 0) {
@@ -244,7 +245,7 @@ pub fn history(state: &State, snapshots: &[u8], deltas: &[u8]) -> Result<History
         held.push(delta(one, 0).map_err(|_| ill)?);
         rest = after;
     }
-    Ok(History { now, deltas: held })
+    Ok(History { now, deltas: held, start: state.start })
 }
 
 impl History {
@@ -252,7 +253,7 @@ impl History {
     pub fn since(&self, newest: u32, serial: u32) -> Result<Delta, Refused> {
         let n = self.deltas.len();
         let d = newest.wrapping_sub(serial) as usize;
-        let served = if n == 0 { serial == 0 } else { d <= n };
+        let served = if n == 0 { serial == self.start } else { d <= n };
         if !served {
             return Err(Refused(6, 0, 0));
         }
@@ -319,13 +320,14 @@ fn accept(call: &Call, out: &mut Outcome) -> Result<(), Refused> {
             out.answer = Answer { kind: 1, length: made.len() as u64, ..Answer::default() };
         }
         Entry::Create => {
-            let [session, keep, _] = call.numbers;
+            let [session, keep, start] = call.numbers;
+            let start = start as u32;
             if !(1..=64).contains(&keep) {
                 return Err(Refused(8, 0, 0));
             }
             limits([(first, SNAPSHOT_LIMIT), (second, DELTA_LIMIT)])?;
-            out.state = State { session, keep: keep as u32, ..State::ZERO };
-            out.answer.kind = 1;
+            out.state = State { session, keep: keep as u32, newest: start, start, ..State::ZERO };
+            out.answer = Answer { kind: 1, serial: start, ..Answer::default() };
         }
         Entry::Update => {
             let held = history(state, second, third)?;

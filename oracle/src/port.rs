@@ -103,9 +103,8 @@ fn without_zeros(bytes: &[u8]) -> &[u8] {
 
 fn put_state(out: &mut Vec<u8>, state: &State) {
     out.extend(state.session.to_le_bytes());
-    let numbers = [state.keep, state.active, state.newest, state.n, state.snapshot];
+    let numbers = [state.keep, state.active, state.newest, state.start, state.n, state.snapshot];
     numbers.iter().chain(&state.deltas).for_each(|x| out.extend(x.to_le_bytes()));
-    out.extend([0; 4]);
 }
 
 struct Reader<'a>(&'a [u8]);
@@ -123,16 +122,15 @@ impl<'a> Reader<'a> {
         u64::from_le_bytes(self.take(8).try_into().expect("8 bytes"))
     }
     fn state(&mut self) -> State {
-        let state = State {
+        State {
             session: self.u64(),
             keep: self.u32(),
             active: self.u32(),
             newest: self.u32(),
+            start: self.u32(),
             n: self.u32(),
             snapshot: self.u32(),
             deltas: std::array::from_fn(|_| self.u32()),
-        };
-        self.take(4);
-        state
+        }
     }
 }

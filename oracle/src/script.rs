@@ -196,15 +196,15 @@ impl<F: FnMut(&Call) -> Outcome> Player<F> {
         format!(" refresh {refresh} retry {retry} expire {expire}")
     }
 
-    /// create NAME SESSION KEEP SNAPSHOT-ROOM DELTA-ROOM
+    /// create NAME SESSION KEEP START SNAPSHOT-ROOM DELTA-ROOM
     fn create(&mut self, line: &Line<'_>) -> String {
-        self.stores = [3, 4].map(|i| Store::holding(line.number(i) as usize, b""));
+        self.stores = [4, 5].map(|i| Store::holding(line.number(i) as usize, b""));
         let [snapshots, deltas] = self.stores.each_ref().map(Store::lent);
-        let left = (self.run)(&Call::create(line.number(1), line.u32(2), snapshots, deltas));
+        let left = (self.run)(&Call::create(line.number(1), line.u32(2), line.u32(3), snapshots, deltas));
         self.state = left.state;
         match left.answer.kind {
             0 => refused(&left.answer),
-            _ => " done".into(),
+            _ => format!(" done serial {}", left.answer.serial),
         }
     }
 
@@ -214,16 +214,17 @@ impl<F: FnMut(&Call) -> Outcome> Player<F> {
         String::new()
     }
 
-    /// state NAME SESSION KEEP ACTIVE SERIAL N SNAPSHOT-LENGTH LENGTH..
+    /// state NAME SESSION KEEP ACTIVE SERIAL START N SNAPSHOT-LENGTH LENGTH..
     fn by_construction(&mut self, line: &Line<'_>) -> String {
         self.state = State {
             session: line.number(1),
             keep: line.u32(2),
             active: line.u32(3),
             newest: line.u32(4),
-            n: line.u32(5),
-            snapshot: line.u32(6),
-            deltas: std::array::from_fn(|i| line.u32(7 + i)),
+            start: line.u32(5),
+            n: line.u32(6),
+            snapshot: line.u32(7),
+            deltas: std::array::from_fn(|i| line.u32(8 + i)),
         };
         String::new()
     }
@@ -344,9 +345,9 @@ fn active(active: bool) -> String {
 
 /// The numbers of a state, and the lengths of its deltas, oldest first.
 fn state(state: &State) -> String {
-    let State { session, keep, newest, n, snapshot, deltas, .. } = state;
+    let State { session, keep, newest, start, n, snapshot, deltas, .. } = state;
     let head = format!("; session {session} keep {keep}{}", active(state.active != 0));
-    let mut out = format!("{head} serial {newest} snapshot {snapshot} deltas {n}:");
+    let mut out = format!("{head} serial {newest} start {start} snapshot {snapshot} deltas {n}:");
     for (i, length) in (0..).zip(deltas) {
         match length {
             _ if i < *n => write!(out, " {length}").expect("a string takes all"),

@@ -28,17 +28,14 @@ fn history(start: u32, changes: u32) -> (History, Vec<Vec<u8>>) {
     (history, snapshots)
 }
 
-/// What the model's history says after the same, its serial moved so that it ends where the Rust's does.
+/// What the model's history says after the same.
 fn model_since(start: u32, snapshots: &[Vec<u8>], serial: u32) -> Option<Vec<u8>> {
-    let mut state = State { keep: 5, ..State::ZERO };
+    let mut state = State { keep: 5, newest: start, start, ..State::ZERO };
     let (mut held, mut deltas) = (vec![0; 100], vec![0; 1000]);
     for new in snapshots {
         let outcome = model::run(&Call::update(state, new.clone(), held, deltas));
         state = outcome.state;
         [_, held, deltas] = outcome.bytes;
-    }
-    if state.n > 0 {
-        state.newest = state.newest.wrapping_add(start);
     }
     let outcome = model::run(&Call::query(state, 0, serial, held, deltas, vec![0; 1000]));
     match outcome.answer.number {
@@ -69,6 +66,11 @@ fn k1_to_k7_serving() {
         // K7
         (4_294_967_293, 3, 4_294_967_294, Some(1)),
         (4_294_967_293, 3, 4_294_967_292, None),
+        // from a start serial, before the first delta and over the wrap
+        (4_294_967_290, 0, 4_294_967_290, Some(0)),
+        (4_294_967_290, 0, 0, None),
+        (4_294_967_290, 8, 4_294_967_294, Some(4)),
+        (4_294_967_290, 8, 4_294_967_290, None),
     ] {
         let (history, snapshots) = history(start, changes);
         let last = snapshots.last().expect("one at least");
@@ -76,6 +78,12 @@ fn k1_to_k7_serving() {
         assert_eq!(history.since(serial).map(|s| s.bytes), want, "{start} {changes} {serial}");
         assert_eq!(model_since(start, &snapshots, serial), want, "{start} {changes} {serial}");
     }
+    let inactive = History::new(3, 9);
+    assert_eq!(inactive.since(9).map(|s| s.bytes), Some(vec![]));
+    assert_eq!(inactive.since(0), None);
+    assert_eq!(model_since(9, &[], 9), Some(vec![]));
+    assert_eq!(model_since(9, &[], 0), None);
+    drop(inactive); // one lives at a time
     let inactive = History::new(3, 0);
     assert_eq!(inactive.since(0).map(|s| s.bytes), Some(vec![]));
     assert_eq!(inactive.since(1), None);

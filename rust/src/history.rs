@@ -34,7 +34,7 @@ pub struct History {
 /// What an update did.
 #[derive(Clone, Copy, Debug, Eq, PartialEq)]
 pub enum Updated {
-    /// The history's first snapshot; the serial stays 0.
+    /// The history's first snapshot; the serial stays the one that the history started with.
     First,
     /// The snapshot is the one that is held already.
     Unchanged,
@@ -58,7 +58,7 @@ pub struct Full<'a> {
 }
 
 impl History {
-    /// Makes a history with no snapshot yet, which keeps up to `keep` deltas.
+    /// Makes a history with no snapshot yet, which keeps up to `keep` deltas. Its first serial is 0.
     ///
     /// Refused if `keep` is not 1 to 64 or a store is over its limit
     /// ([`SNAPSHOT_LIMIT`](crate::SNAPSHOT_LIMIT), [`DELTA_LIMIT`](crate::DELTA_LIMIT)).
@@ -68,8 +68,20 @@ impl History {
         snapshot_store_len: usize,
         delta_store_len: usize,
     ) -> Result<Self, Refusal> {
+        Self::starting_at(session, keep, Serial(0), snapshot_store_len, delta_store_len)
+    }
+
+    /// The same with `start` as its first serial, so that after a planned restart serials go on.
+    /// The session should be a new one, so that routers with older data reload.
+    pub fn starting_at(
+        session: u64,
+        keep: u32,
+        start: Serial,
+        snapshot_store_len: usize,
+        delta_store_len: usize,
+    ) -> Result<Self, Refusal> {
         let (snapshots, deltas) = (vec![0; snapshot_store_len], vec![0; delta_store_len]);
-        let made = raw::create(session, keep, &snapshots, &deltas);
+        let made = raw::create(session, keep, start, &snapshots, &deltas);
         Refusal::check(&made.answer)?;
         Ok(History { state: made.state, snapshots, deltas })
     }

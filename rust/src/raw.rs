@@ -18,6 +18,8 @@ pub struct State {
     pub active: u32,
     /// The serial of the held snapshot.
     pub newest: Serial,
+    /// The serial that the history started with.
+    pub start: Serial,
     /// How many deltas are held.
     pub n: u32,
     /// The length of the held snapshot.
@@ -97,6 +99,7 @@ mod c {
         pub fn taplevung_create(
             session: u64,
             keep: u32,
+            start: Serial,
             snapshots: *const u8,
             snapshots_length: usize,
             deltas: *const u8,
@@ -183,10 +186,18 @@ pub fn apply(snapshot: &[u8], delta: &[u8], out: &mut [u8]) -> Answer {
 }
 
 /// `taplevung_create`: a history with no snapshot yet. The stores are only measured.
-pub fn create(session: u64, keep: u32, snapshots: &[u8], deltas: &[u8]) -> Made {
+pub fn create(session: u64, keep: u32, start: Serial, snapshots: &[u8], deltas: &[u8]) -> Made {
     // SAFETY: each pointer is good for its length.
     unsafe {
-        c::taplevung_create(session, keep, snapshots.as_ptr(), snapshots.len(), deltas.as_ptr(), deltas.len())
+        c::taplevung_create(
+            session,
+            keep,
+            start,
+            snapshots.as_ptr(),
+            snapshots.len(),
+            deltas.as_ptr(),
+            deltas.len(),
+        )
     }
 }
 

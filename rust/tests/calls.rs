@@ -108,6 +108,21 @@ fn a_history() {
 }
 
 #[test]
+fn a_start_serial() {
+    let mut history = History::starting_at(3, 2, Serial(u32::MAX), 100, 100).unwrap();
+    assert_eq!((history.notify(), history.state().start), ((Session(3), Serial(u32::MAX)), Serial(u32::MAX)));
+    assert_eq!(history.query(Session(3), Serial(0), &mut []), Err(Refusal::NotServed));
+    assert_eq!(history.query(Session(3), Serial(u32::MAX), &mut []).unwrap().delta.serial, Serial(u32::MAX));
+    assert_eq!(history.update(&aspa(3, 1, &[2])), Ok(Updated::First));
+    let Ok(Updated::Changed(delta)) = history.update(&aspa(3, 1, &[3])) else { panic!("unchanged") };
+    assert_eq!(delta.serial, Serial(0));
+    let mut out = [0; 64];
+    let served = history.query(Session(3), Serial(u32::MAX), &mut out).unwrap();
+    assert_eq!((served.delta.serial, served.delta.announced), (Serial(0), 1));
+    assert_eq!(history.state().start, Serial(u32::MAX));
+}
+
+#[test]
 fn intervals() {
     let most = timing(Timing { refresh: u32::MAX, retry: u32::MAX, expire: u32::MAX });
     assert_eq!(most, Timing { refresh: 86_400, retry: 7_200, expire: 172_800 });

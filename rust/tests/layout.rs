@@ -32,7 +32,7 @@ fn same_as_in_c() {
         taplevung_serial Serial { value = 0 }
         taplevung_session Session { value = 0 }
         taplevung_state State {
-            session = session, keep = keep, active = active, newest = newest, n = n,
+            session = session, keep = keep, active = active, newest = newest, start = start, n = n,
             snapshot = snapshot, deltas = deltas
         }
         taplevung_answer Answer {

@@ -209,6 +209,7 @@ module _ (h : History) (s d : Bytes) (f : Formed h s d) where
         keep = h .keep;
         active = true;
         newest = nextState h new (deltasWith h d c) .newest;
+        start = h .start;
         n = with-count i;
         snapshot = length new;
         deltas = with-array i;

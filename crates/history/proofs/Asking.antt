@@ -1,5 +1,5 @@
 -- Laws of the query.
-use Prim.Native.Nat.{ℕ, _≤_}
+use Prim.Native.Nat.{ℕ, _^_, _≤_, _<_}
 use mathlib.Core.Path.{_≡_, refl, sym, ap, _∙_}
 use mathlib.Core.List.{List, [], _∷_}
 use mathlib.Core.Bool.{Bool, true, false, not, cond, _&&_}
@@ -43,11 +43,11 @@ use Rattle.past.proofs.Served.{served-rule, rule-within}
 pub session-is : (h : History) (session own : Session) → own ≡ sessionOf (h .session) → eqb (session .0) (own .0) ≡ isSession h session
 session-is h session own e = ap (λ (s : Session). eqb (session .0) (s .0)) e
 
-module _ (n : ℕ) (asked : Serial) (d : ℕ) where
-  pub served-start : n ≡ 0 → eqb (asked .0) 0 ≡ isServed n asked d
+module _ (start : Serial) (n : ℕ) (asked : Serial) (d : ℕ) where
+  pub served-start : n ≡ 0 → eqb (asked .0) (start .0) ≡ isServed start n asked d
   served-start e = rw (eq-eqb n 0 e)
 
-  pub served-held : (n ≡ 0 → ⊥) → leb d n ≡ isServed n asked d
+  pub served-held : (n ≡ 0 → ⊥) → leb d n ≡ isServed start n asked d
   served-held h = rw (ne-eqb n 0 h)
 
 pub ruleset testing = (session-is, served-start, served-held)
@@ -62,7 +62,7 @@ module _ (h : History) (session : Session) (asked : Serial) (snapshots deltas : 
     pub ask-session : not u ≡ true → No OtherSession ≡ queryAdmitted h session asked snapshots deltas
     ask-session p = rw (← e, not-false t q, ← f, not-true u p)
 
-    module _ (p : not u ≡ false) (d : ℕ) (i : d ≡ distanceOf (h .newest) asked) (v : Bool) (g : v ≡ isServed (h .n) asked d) where
+    module _ (p : not u ≡ false) (d : ℕ) (i : d ≡ distanceOf (h .newest) asked) (v : Bool) (g : v ≡ isServed (h .start) (h .n) asked d) where
       pub ask-serial : not v ≡ true → No NotServed ≡ queryAdmitted h session asked snapshots deltas
       ask-serial o = rw (← e, not-false t q, ← f, not-false u p, ← i, ← g, not-true v o)
 
@@ -138,13 +138,13 @@ module _ (h : History) (snapshots deltas : Bytes) (e : wellFormed h snapshots de
       let b = both (leb 1 (h .keep)) (leb (h .keep) 64) (a .0) in
       omega (arith, leb-true (h .n) (h .keep) (a .1), leb-true (h .keep) 64 (b .1))
 
-  -- with no deltas F is 0
-  formed-serial : h .n ≡ 0 → h .newest .0 ≡ 0
+  -- with no deltas F is the start serial
+  formed-serial : h .n ≡ 0 → h .newest .0 ≡ h .start .0
   formed-serial z = go (h .active) (rw z at (split .0 .1))
     where
-      go : (t : Bool) → cond t (cond (eqb 0 0) (eqb (h .newest .0) 0) true) (eqb (h .newest .0) 0) ≡ true → h .newest .0 ≡ 0
-      go true q = eqb-true (h .newest .0) 0 q
-      go false q = eqb-true (h .newest .0) 0 q
+      go : (t : Bool) → cond t (cond (eqb 0 0) (eqb (h .newest .0) (h .start .0)) true) (eqb (h .newest .0) (h .start .0)) ≡ true → h .newest .0 ≡ h .start .0
+      go true q = eqb-true (h .newest .0) (h .start .0) q
+      go false q = eqb-true (h .newest .0) (h .start .0) q
 
   pub formed-stored : Stored deltas (h .deltas) (h .n)
   formed-stored =
@@ -179,16 +179,16 @@ module _ (h : History) (session : Session) (asked : Serial) (snapshots deltas : 
     query-kept o = rw (← e, q)
 
   module _ (q : x ≡ Yes) where
-    passed : (wellFormed h snapshots deltas ≡ true) × (isServed (h .n) asked (distanceOf (h .newest) asked) ≡ true)
-    passed = tests-true (wellFormed h snapshots deltas) (isSession h session) (isServed (h .n) asked (distanceOf (h .newest) asked)) (sym e ∙ q)
+    passed : (wellFormed h snapshots deltas ≡ true) × (isServed (h .start) (h .n) asked (distanceOf (h .newest) asked) ≡ true)
+    passed = tests-true (wellFormed h snapshots deltas) (isSession h session) (isServed (h .start) (h .n) asked (distanceOf (h .newest) asked)) (sym e ∙ q)
 
     pub query-stored : Stored deltas (h .deltas) (h .n)
     query-stored = formed-stored h snapshots deltas (passed .0)
 
     module _ (d : ℕ) (i : d ≡ distanceOf (h .newest) asked) where
-      pub query-within : d ≤ h .n
-      query-within =
-          let w = rule-within (h .n) (h .newest) asked (formed-serial h snapshots deltas (passed .0)) (served-rule (h .n) asked (distanceOf (h .newest) asked) (passed .1)) in
+      pub query-within : asked .0 < 2 ^ 32 → d ≤ h .n
+      query-within l =
+          let w = rule-within (h .start) (h .n) (h .newest) asked l (formed-serial h snapshots deltas (passed .0)) (served-rule (h .start) (h .n) asked (distanceOf (h .newest) asked) (passed .1)) in
           rw i w
 
       pub query-served : (a : Queried) (room : ℕ) → a ≡ queryAt Yes h (mergedLast d (heldDeltas h deltas)) room → a ≡ queryOf h session asked snapshots deltas room

@@ -44,10 +44,10 @@ module _ (h : History) where
   pub serial-held : h .active ≡ true → (h .n ≡ 0 → ⊥) → true ≡ goodSerial h
   serial-held a n = rw (a, ne-eqb (h .n) 0 n)
 
-  pub serial-none : h .active ≡ true → h .n ≡ 0 → eqb (h .newest .0) 0 ≡ goodSerial h
+  pub serial-none : h .active ≡ true → h .n ≡ 0 → eqb (h .newest .0) (h .start .0) ≡ goodSerial h
   serial-none a n = rw (a, n)
 
-  pub serial-inactive : h .active ≡ false → eqb (h .newest .0) 0 ≡ goodSerial h
+  pub serial-inactive : h .active ≡ false → eqb (h .newest .0) (h .start .0) ≡ goodSerial h
   serial-inactive a = rw a
 
   pub start-active : h .active ≡ true → true ≡ goodStart h

@@ -187,13 +187,13 @@ pub ruleset shifting = (shifts-start, shifts-put, shifts-full, shifts-end, shift
 
 grown-path : (h : History) (first snapshot delta len n m k : ℕ) (lens : List ℕ) (s : Serial) → n ≡ h .n → len ≡ delta → k ≡ snapshot →
     lens ≡ lengthsWith (h .deltas) first n len → s ≡ nextOf (h .newest) → m ≡ n - first + 1 →
-    record { session = h .session; keep = h .keep; active = true; newest = s; n = m; snapshot = k; deltas = lens } ≡ grownOf h first snapshot delta
+    record { session = h .session; keep = h .keep; active = true; newest = s; start = h .start; n = m; snapshot = k; deltas = lens } ≡ grownOf h first snapshot delta
 unfolding grownOf
 grown-path h first snapshot delta len n m k lens s a b d e f g = rw (g, e, f, b, d, a)
 
 pub grown-is : (h : History) (first snapshot delta len n m k : ℕ) (lens : List ℕ) (s : Serial) → n ≡ h .n → len ≡ delta → k ≡ snapshot →
     lens ≡ lengthsWith (h .deltas) first n len → s ≡ nextOf (h .newest) → m ≡ n - first + 1 → length (h .deltas) ≡ 64 →
-    Grows h first snapshot delta (record { session = h .session; keep = h .keep; active = true; newest = s; n = m; snapshot = k; deltas = lens })
+    Grows h first snapshot delta (record { session = h .session; keep = h .keep; active = true; newest = s; start = h .start; n = m; snapshot = k; deltas = lens })
 grown-is h first snapshot delta len n m k lens s a b d e f g l =
     record { is = grown-path h first snapshot delta len n m k lens s a b d e f g; full = l }
 

@@ -5,6 +5,7 @@ use mathlib.Core.Bool.{Bool, true, false, not}
 use lib.Dec.{leb}
 use lib.ListN.{length}
 use borrow.Author.Tests.{not-true, not-false}
+use Rattle.serial.specs.declared.Serial.{Serial}
 use Rattle.serial.specs.declared.Session.{Session}
 use Rattle.serial.specs.Serial.{sessionOf}
 use Rattle.field.specs.declared.tag.Form.the-variants.{Snapshot, Delta}
@@ -40,12 +41,12 @@ module _ (keep : ℕ) (s d : Bytes) (t : Bool) (e : t ≡ goodKeep keep) where
 
 pub ruleset admitting = (create-keep, create-snapshots, create-deltas, create-admitted)
 
-module _ (session keep : ℕ) (s d : Bytes) (x : Admitted) (e : x ≡ createAdmitted keep s d) where
-  pub create-refused : (r : Refusal) (h : History) → x ≡ No r → h ≡ freshOf 0 0 → record { answer = creation.Refused r; history = h } ≡ createOf session keep s d
+module _ (session keep : ℕ) (start : Serial) (s d : Bytes) (x : Admitted) (e : x ≡ createAdmitted keep s d) where
+  pub create-refused : (r : Refusal) (h : History) → x ≡ No r → h ≡ freshOf 0 0 (record { 0 = 0 }) → record { answer = creation.Refused r; history = h } ≡ createOf session keep start s d
   unfolding createOf
   create-refused r h q p = rw (← e, q, p)
 
-  pub create-done : (h : History) → x ≡ Yes → h ≡ freshOf session keep → record { answer = creation.Done; history = h } ≡ createOf session keep s d
+  pub create-done : (h : History) → x ≡ Yes → h ≡ freshOf session keep start → record { answer = creation.Done; history = h } ≡ createOf session keep start s d
   unfolding createOf
   create-done h q p = rw (← e, q, p)
 

@@ -54,7 +54,7 @@ module _ (h : History) (new s : Bytes) where
   first-full l = rw (lt-leb (length new) (length s) l)
 
   pub first-made : (k : ℕ) → length new ≤ length s → k ≡ length new →
-      record { answer = updates.First; history = record { session = h .session; keep = h .keep; active = true; newest = h .newest; n = 0; snapshot = k; deltas = replicate 64 0 } } ≡ firstOf h new s
+      record { answer = updates.First; history = record { session = h .session; keep = h .keep; active = true; newest = h .newest; start = h .start; n = 0; snapshot = k; deltas = replicate 64 0 } } ≡ firstOf h new s
   unfolding firstOf
   first-made k l e = rw (le-leb (length new) (length s) l, e)
 

@@ -41,6 +41,7 @@ grownOf h first snapshot delta = record {
   keep = h .keep;
   active = true;
   newest = nextOf (h .newest);
+  start = h .start;
   n = h .n - first + 1;
   snapshot = snapshot;
   deltas = lengthsWith (h .deltas) first (h .n) delta;

@@ -11,16 +11,17 @@ use serial::Serial;
 ghost use mathlib.Core.Path.{_≡_};
 ghost use Rattle.past.specs.Create.{freshOf, createAdmitted, createOf};
 
-// Inactive, n = 0, F = 0, nothing held.
-fn fresh(session: u64, keep: u32) -> History
-    ensures { λ r. ⌜ r ≡ freshOf session keep ⌝ }
+// Inactive, n = 0, F the start serial, nothing held.
+fn fresh(session: u64, keep: u32, start: Serial) -> History
+    ensures { λ r. ⌜ r ≡ freshOf session keep start ⌝ }
 {
     let deltas = [0u32; 64];
     History {
         session,
         keep,
         active: false,
-        newest: Serial(0),
+        newest: start,
+        start,
         n: 0,
         snapshot: 0,
         deltas,
@@ -44,17 +45,17 @@ fn admitted(keep: u32, snapshots: &[u8], deltas: &[u8]) -> Admitted
 }
 
 // A fresh history over two stores, which stay as they were.
-pub fn create(session: u64, keep: u32, snapshots: &[u8], deltas: &[u8]) -> Created
-    ensures { λ r. ⌜ r ≡ createOf session keep (now (snapshots .entry)) (now (deltas .entry)) ⌝ }
+pub fn create(session: u64, keep: u32, start: Serial, snapshots: &[u8], deltas: &[u8]) -> Created
+    ensures { λ r. ⌜ r ≡ createOf session keep start (now (snapshots .entry)) (now (deltas .entry)) ⌝ }
 {
     if let Admitted::No(r) = admitted(keep, snapshots, deltas) {
-        let none = fresh(0, 0);
+        let none = fresh(0, 0, Serial(0));
         return Created {
             answer: Creation::Refused(r),
             history: none,
         };
     }
-    let history = fresh(session, keep);
+    let history = fresh(session, keep, start);
     Created {
         answer: Creation::Done,
         history,

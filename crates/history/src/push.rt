@@ -87,11 +87,13 @@ pub(crate) fn grown(history: History, first: usize, snapshot: usize, delta: usiz
     let n = wide(history.n);
     let deltas = push_length(lens, first, n, narrow(delta));
     let newest = next(history.newest);
+    let start = history.start;
     History {
         session: history.session,
         keep: history.keep,
         active: true,
         newest,
+        start,
         n: narrow(n - first + 1),
         snapshot: narrow(snapshot),
         deltas,

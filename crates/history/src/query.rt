@@ -42,11 +42,11 @@ fn is_session(history: History, session: Session) -> bool
 }
 
 // Whether, with n deltas, a serial is served that is d steps before the newest.
-fn is_served(n: u32, asked: Serial, d: u32) -> bool
-    ensures { λ r. ⌜ r ≡ isServed n asked d ⌝ }
+fn is_served(start: Serial, n: u32, asked: Serial, d: u32) -> bool
+    ensures { λ r. ⌜ r ≡ isServed start n asked d ⌝ }
 {
     if n == 0 {
-        return asked.0 == 0;
+        return asked.0 == start.0;
     }
     d <= n
 }
@@ -68,7 +68,8 @@ fn admit_query(
         return Admitted::No(Refusal::OtherSession);
     }
     let newest = history.newest;
-    if !is_served(history.n, asked, distance(newest, asked)) {
+    let start = history.start;
+    if !is_served(start, history.n, asked, distance(newest, asked)) {
         return Admitted::No(Refusal::NotServed);
     }
     Admitted::Yes

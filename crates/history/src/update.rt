@@ -48,12 +48,14 @@ fn first(history: History, new: &[u8], snapshots: &mut [u8]) -> Updated
     }
     hold(new, snapshots);
     let newest = history.newest;
+    let start = history.start;
     let deltas = [0u32; 64];
     let state = History {
         session: history.session,
         keep: history.keep,
         active: true,
         newest,
+        start,
         n: 0,
         snapshot: narrow(new.len()),
         deltas,

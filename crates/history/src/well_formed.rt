@@ -37,18 +37,19 @@ fn in_range(history: History) -> bool
     history.n <= history.keep
 }
 
-// Inactive or n = 0: whether F is 0.
+// Inactive or n = 0: whether F is the start serial.
 fn good_serial(history: History) -> bool
     ensures { λ r. ⌜ r ≡ goodSerial history ⌝ }
 {
     let newest = history.newest;
+    let start = history.start;
     if history.active {
         if history.n != 0 {
             return true;
         }
-        return newest.0 == 0;
+        return newest.0 == start.0;
     }
-    newest.0 == 0
+    newest.0 == start.0
 }
 
 // Inactive: whether nothing is held.

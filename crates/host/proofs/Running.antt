@@ -1,11 +1,13 @@
 -- A run of the exported calls is the run of the same calls on a history.
-use Prim.Native.Nat.{ℕ}
-use mathlib.Core.Path.{_≡_, refl, ap, _∙_}
+use Prim.Native.Nat.{ℕ, _^_, _<_}
+use mathlib.Core.Path.{_≡_, refl, sym, ap, _∙_}
 use mathlib.Core.List.{List, [], _∷_}
 use mathlib.Core.Bool.{Bool, true, false, not}
 use native.Mathlib.Omega.{arith}
 use lib.Dec.{eqb}
 use lib.ListN.{length}
+use Rattle.order.specs.Map.{All}
+use Rattle.serial.specs.declared.Serial.{Serial}
 use Rattle.payload.specs.Content.{Bytes}
 use Rattle.past.specs.declared.state.History.{History}
 use Rattle.past.specs.declared.create.Creation.{Creation}
@@ -34,6 +36,7 @@ history-back h = λ i. record {
   keep = h .keep;
   active = mark-back (h .active) i;
   newest = h .newest;
+  start = h .start;
   n = h .n;
   snapshot = h .snapshot;
   deltas = h .deltas;
@@ -89,8 +92,8 @@ run-kept : (r : Run) (calls : List Call) → keptRun (keptOf (r .world)) calls �
 run-kept r [] = refl
 run-kept r (c ∷ calls) = ap (λ (k : Kept). keptRun k calls) (call-kept (r .world) c) ∙ run-kept _ calls
 
-hosted-at : (session keep : ℕ) (k : Kept) (r : Run) → Promise session keep r → k ≡ keptOf (r .world) → Hosted session keep k r
-hosted-at session keep k r p e = record {
+hosted-at : (session keep : ℕ) (start : Serial) (k : Kept) (r : Run) → Promise session keep start r → k ≡ keptOf (r .world) → Hosted session keep start k r
+hosted-at session keep start k r p e = record {
   promise = p;
   history = ap (λ (x : Kept). historyOf (x .state)) e ∙ history-back (r .world .history);
   snapshots = ap (λ (x : Kept). x .snapshots) e;
@@ -99,13 +102,13 @@ hosted-at session keep k r p e = record {
 }
 
 -- kind 1 says that the history was created
-done-of : (c : Creation) → flatCreation c .kind ≡ 1 → c ≡ creation.Done
-done-of creation.Done e = refl
-done-of (creation.Refused r) e = absurd (let z : _≡_ {A = ℕ} 0 1 = e in omega arith)
+done-of : (c : Creation) (start : Serial) → flatCreation c start .kind ≡ 1 → c ≡ creation.Done
+done-of creation.Done start e = refl
+done-of (creation.Refused r) start e = absurd (let z : _≡_ {A = ℕ} 0 1 = e in omega arith)
 
 -- demand 3, second part, over every run of the exported calls from a taplevung_create that answers kind 1
 pub hosted : EveryHosted
-hosted session keep snapshots deltas e calls octets =
-    hosted-at session keep (keptRun (createdKept session keep snapshots deltas) calls) (runOf (startOf session keep snapshots deltas) calls)
-    (past.promise session keep snapshots deltas (done-of (createOf session keep snapshots deltas .answer) e) calls octets)
-    (run-kept (startOf session keep snapshots deltas) calls)
+hosted session keep start snapshots deltas bound e calls octets =
+    hosted-at session keep start (keptRun (createdKept session keep start snapshots deltas) calls) (runOf (startOf session keep start snapshots deltas) calls)
+    (past.promise session keep start snapshots deltas bound (done-of (createOf session keep start snapshots deltas .answer) (createOf session keep start snapshots deltas .history .start) e) calls octets)
+    (run-kept (startOf session keep start snapshots deltas) calls)

@@ -33,8 +33,8 @@ use Rattle.host.specs.State.{historyOf, markOf, stateOf}
 use Rattle.host.specs.Told.{flatCreation, madeCreated, flatUpdate, stateAfter, madeUpdated, flatQuery, toldQueried, flatFull, toldFull}
 
 pub state-is : (h : History) (a : ℕ) → a ≡ markOf (h .active) →
-    record { session = h .session; keep = h .keep; active = a; newest = h .newest; n = h .n; snapshot = h .snapshot; deltas = h .deltas } ≡ stateOf h
-state-is h a e = λ i. record { session = h .session; keep = h .keep; active = e i; newest = h .newest; n = h .n; snapshot = h .snapshot; deltas = h .deltas }
+    record { session = h .session; keep = h .keep; active = a; newest = h .newest; start = h .start; n = h .n; snapshot = h .snapshot; deltas = h .deltas } ≡ stateOf h
+state-is h a e = λ i. record { session = h .session; keep = h .keep; active = e i; newest = h .newest; start = h .start; n = h .n; snapshot = h .snapshot; deltas = h .deltas }
 
 -- an answer with no counts
 of-length : (kind n : ℕ) (s : Serial) (k : Counts) (a : Answer) → k ≡ ofLength n → a ≡ wrote kind s k → a ≡ wrote kind s (ofLength n)
@@ -46,14 +46,14 @@ made-path p q = λ i. record { answer = p i; state = q i }
 told-path : {s : Session} {a b : Answer} → a ≡ b → _≡_ {A = Told} (record { session = s; answer = a }) (record { session = s; answer = b })
 told-path {s} p = λ i. record { session = s; answer = p i }
 
-module _ (c : Creation) (a : Answer) where
-  pub creation-done : (k : Counts) → c ≡ creation.Done → k ≡ ofLength 0 → a ≡ wrote 1 (record { 0 = 0 }) k → a ≡ flatCreation c
-  creation-done k e d q = rw e (of-length 1 0 (record { 0 = 0 }) k a d q)
+module _ (c : Creation) (start : Serial) (a : Answer) where
+  pub creation-done : (k : Counts) → c ≡ creation.Done → k ≡ ofLength 0 → a ≡ wrote 1 start k → a ≡ flatCreation c start
+  creation-done k e d q = rw e (of-length 1 0 start k a d q)
 
-  pub creation-refused : (r : Refusal) → c ≡ creation.Refused r → a ≡ refused r → a ≡ flatCreation c
+  pub creation-refused : (r : Refusal) → c ≡ creation.Refused r → a ≡ refused r → a ≡ flatCreation c start
   creation-refused r e q = rw e q
 
-pub created-made : (c : Created) (a : Answer) (s : State) → a ≡ flatCreation (c .answer) → s ≡ stateOf (c .history) → record { answer = a; state = s } ≡ madeCreated c
+pub created-made : (c : Created) (a : Answer) (s : State) → a ≡ flatCreation (c .answer) (c .history .start) → s ≡ stateOf (c .history) → record { answer = a; state = s } ≡ madeCreated c
 created-made c a s p q = made-path p q
 
 module _ (u : Update) (newest : Serial) (a : Answer) where

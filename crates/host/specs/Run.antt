@@ -1,10 +1,11 @@
 -- Runs of the exported calls: the host hands each the state and the stores that the one before left.
-use Prim.Native.Nat.{ℕ}
+use Prim.Native.Nat.{ℕ, _^_, _<_}
 use mathlib.Core.Path.{_≡_}
 use mathlib.Core.List.{List, foldl}
 use mathlib.Core.Bool.{Bool}
 use lib.ListN.{length}
 use Rattle.order.specs.Map.{All}
+use Rattle.serial.specs.declared.Serial.{Serial}
 use Rattle.payload.specs.Content.{Bytes}
 use Rattle.past.specs.declared.notify.Notice.{Notice}
 use Rattle.past.specs.Create.{createOf}
@@ -56,9 +57,9 @@ keptAfter k notify = k
 keptAfter k ready = k
 
 -- what taplevung_create leaves, with the stores that it was lent
-abbrev pub createdKept : ℕ → ℕ → Bytes → Bytes → Kept
-createdKept session keep snapshots deltas = record {
-  state = madeCreated (createOf session keep snapshots deltas) .state;
+abbrev pub createdKept : ℕ → ℕ → Serial → Bytes → Bytes → Kept
+createdKept session keep start snapshots deltas = record {
+  state = madeCreated (createOf session keep start snapshots deltas) .state;
   snapshots = snapshots;
   deltas = deltas;
 }
@@ -76,9 +77,9 @@ flatReply w (noticed n) = notice n
 flatReply w (isReady b) = mark b
 
 -- a run of exported calls beside the run of the same calls on a history
-pub record Hosted (session keep : ℕ) (k : Kept) (r : Run) : Type 0 where
+pub record Hosted (session keep : ℕ) (start : Serial) (k : Kept) (r : Run) : Type 0 where
   -- all that is promised of the history's run
-  pub promise : Promise session keep r
+  pub promise : Promise session keep start r
   -- what is kept is that history, with its stores
   pub history : historyOf (k .state) ≡ r .world .history
   pub snapshots : k .snapshots ≡ r .world .snapshots
@@ -88,6 +89,6 @@ pub record Hosted (session keep : ℕ) (k : Kept) (r : Run) : Type 0 where
 
 -- after every taplevung_create that answers kind 1, whatever the calls
 abbrev pub EveryHosted : Type 0
-EveryHosted = (session keep : ℕ) (snapshots deltas : Bytes) → madeCreated (createOf session keep snapshots deltas) .answer .kind ≡ 1 →
+EveryHosted = (session keep : ℕ) (start : Serial) (snapshots deltas : Bytes) → start .0 < 2 ^ 32 → madeCreated (createOf session keep start snapshots deltas) .answer .kind ≡ 1 →
     (calls : List Call) → All OfBytes calls →
-    Hosted session keep (keptRun (createdKept session keep snapshots deltas) calls) (runOf (startOf session keep snapshots deltas) calls)
+    Hosted session keep start (keptRun (createdKept session keep start snapshots deltas) calls) (runOf (startOf session keep start snapshots deltas) calls)

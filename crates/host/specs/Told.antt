@@ -19,14 +19,14 @@ use Rattle.host.specs.declared.told.Told.{Told}
 use Rattle.host.specs.Flat.{refused, wrote, ofLength}
 use Rattle.host.specs.State.{stateOf}
 
--- 1 created
-abbrev pub flatCreation : Creation → Answer
-flatCreation creation.Done = wrote 1 (record { 0 = 0 }) (ofLength 0)
-flatCreation (creation.Refused r) = refused r
+-- 1 created, with the start serial
+abbrev pub flatCreation : Creation → Serial → Answer
+flatCreation creation.Done start = wrote 1 start (ofLength 0)
+flatCreation (creation.Refused r) start = refused r
 
 -- with the fresh state, or one of zeros
 abbrev pub madeCreated : Created → Made
-madeCreated c = record { answer = flatCreation (c .answer); state = stateOf (c .history) }
+madeCreated c = record { answer = flatCreation (c .answer) (c .history .start); state = stateOf (c .history) }
 
 -- 1 first, 2 unchanged, 3 changed, with the newest serial, and the delta that was added
 abbrev pub flatUpdate : Update → Serial → Answer

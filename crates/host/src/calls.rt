@@ -80,10 +80,16 @@ pub extern "C" fn taplevung_timing(refresh: u32, retry: u32, expire: u32) -> Tim
 }
 
 #[no_mangle]
-pub extern "C" fn taplevung_create(session: u64, keep: u32, snapshots: &[u8], deltas: &[u8]) -> Made
-    ensures { λ r. ⌜ r ≡ madeCreated (createOf session keep (now (snapshots .entry)) (now (deltas .entry))) ⌝ }
+pub extern "C" fn taplevung_create(
+    session: u64,
+    keep: u32,
+    start: Serial,
+    snapshots: &[u8],
+    deltas: &[u8],
+) -> Made
+    ensures { λ r. ⌜ r ≡ madeCreated (createOf session keep start (now (snapshots .entry)) (now (deltas .entry))) ⌝ }
 {
-    created_as(create(session, keep, snapshots, deltas))
+    created_as(create(session, keep, start, snapshots, deltas))
 }
 
 #[no_mangle]

@@ -11,6 +11,7 @@ pub struct State {
     // 0 for inactive, any other number for active.
     pub active: u32,
     pub newest: Serial,
+    pub start: Serial,
     pub n: u32,
     pub snapshot: u32,
     pub deltas: [u32; 64],
@@ -20,12 +21,14 @@ pub fn history_of(s: State) -> History
     ensures { λ r. ⌜ r ≡ historyOf s ⌝ }
 {
     let newest = s.newest;
+    let start = s.start;
     let deltas = s.deltas;
     History {
         session: s.session,
         keep: s.keep,
         active: s.active != 0,
         newest,
+        start,
         n: s.n,
         snapshot: s.snapshot,
         deltas,
@@ -43,6 +46,7 @@ pub fn state_of(h: History) -> State
     ensures { λ r. ⌜ r ≡ stateOf h ⌝ }
 {
     let newest = h.newest;
+    let start = h.start;
     let deltas = h.deltas;
     let active = mark(h.active);
     State {
@@ -50,6 +54,7 @@ pub fn state_of(h: History) -> State
         keep: h.keep,
         active,
         newest,
+        start,
         n: h.n,
         snapshot: h.snapshot,
         deltas,

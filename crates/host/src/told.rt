@@ -31,11 +31,11 @@ pub struct Told {
     pub answer: Answer,
 }
 
-fn creation_as(c: Creation) -> Answer
-    ensures { λ r. ⌜ r ≡ flatCreation c ⌝ }
+fn creation_as(c: Creation, start: Serial) -> Answer
+    ensures { λ r. ⌜ r ≡ flatCreation c start ⌝ }
 {
     match c {
-        Creation::Done => wrote_as(1, Serial(0), of_length(0)),
+        Creation::Done => wrote_as(1, start, of_length(0)),
         Creation::Refused(r) => refused_as(r),
     }
 }
@@ -45,7 +45,8 @@ pub fn created_as(c: Created) -> Made
 {
     let creation = c.answer;
     let history = c.history;
-    let answer = creation_as(creation);
+    let start = history.start;
+    let answer = creation_as(creation, start);
     let state = state_of(history);
     Made { answer, state }
 }

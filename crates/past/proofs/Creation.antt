@@ -9,6 +9,7 @@ use lib.Dec.{leb}
 use lib.ListN.{length}
 use borrow.Author.Tests.{leb-true, leb-false, le-leb, lt-leb}
 use Rattle.order.proofs.Map.{none≢some}
+use Rattle.serial.specs.declared.Serial.{Serial}
 use Rattle.field.specs.declared.tag.Form.the-variants.{Snapshot, Delta}
 use Rattle.field.proofs.Sizes.{both}
 use Rattle.payload.specs.Content.{Bytes}
@@ -49,21 +50,21 @@ second-by true true false e = (refl, refl, refl)
 second-by true false v e = absurd (omega (arith, argument-of e))
 second-by false u v e = absurd (omega (arith, number-of e))
 
-module _ (session keep : ℕ) (snapshots deltas : Bytes) where
+module _ (session keep : ℕ) (start : Serial) (snapshots deltas : Bytes) where
   abbrev fits : Bool
   fits = leb (length snapshots) (limit Snapshot)
 
   abbrev holds : Bool
   holds = leb (length deltas) (limit Delta)
 
-  answer-by : refusedCreation (createOf session keep snapshots deltas .answer) ≡ refusalBy (goodKeep keep) fits holds
+  answer-by : refusedCreation (createOf session keep start snapshots deltas .answer) ≡ refusalBy (goodKeep keep) fits holds
   unfolding createOf
   answer-by = go (goodKeep keep) fits holds
     where
       admitted : Bool → Bool → Bool → Admitted
       admitted t u v = andThen (cond t Yes (No BadKeep)) (andThen (cond u Yes (No (TooLong 1))) (cond v Yes (No (TooLong 2))))
 
-      go : (t u v : Bool) → refusedCreation (createAt (admitted t u v) session keep .answer) ≡ refusalBy t u v
+      go : (t u v : Bool) → refusedCreation (createAt (admitted t u v) session keep start .answer) ≡ refusalBy t u v
       go true true true = refl
       go true true false = refl
       go true false v = refl
@@ -85,7 +86,7 @@ module _ (session keep : ℕ) (snapshots deltas : Bytes) where
   no-keep : goodKeep keep ≡ false → ¬ ((1 ≤ keep) × (keep ≤ 64))
   no-keep e k = let p : goodKeep keep ≡ true = keep-good .1 k in let z : _≡_ {A = ℕ} 0 1 = cc in omega arith
 
-  pub creates : Creates session keep snapshots deltas
+  pub creates : Creates session keep start snapshots deltas
   unfolding createOf
   creates = record {
     eight = (

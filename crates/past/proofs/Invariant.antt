@@ -1,5 +1,5 @@
 -- What a history reached by a run of calls holds of the snapshots accepted so far.
-use Prim.Native.Nat.{ℕ, _-_, _%_, _^_, _≤_, min}
+use Prim.Native.Nat.{ℕ, _+_, _-_, _%_, _^_, _≤_, _<_, min}
 use mathlib.Core.Path.{_≡_, refl, sym, ap, _∙_}
 use mathlib.Core.List.{List, [], _∷_, _++_, map}
 use mathlib.Core.Bool.{Bool, true, false, cond, _&&_}
@@ -15,6 +15,7 @@ use Rattle.change.specs.History.{lastN, newest, diffs, held}
 use Rattle.change.specs.Grouping.{steps}
 use Rattle.change.proofs.Chain.{all-newest}
 use Rattle.change.proofs.History.{diffs-length, held-push}
+use Rattle.serial.specs.declared.Serial.{Serial}
 use Rattle.field.specs.declared.tag.Form.the-variants.{Snapshot, Delta}
 use Rattle.field.specs.declared.verdict.Verdict.the-variants.{Fine}
 use Rattle.field.specs.Head.{front}
@@ -35,32 +36,34 @@ use Rattle.delta.specs.Demand.{GoodSnapshot}
 use Rattle.delta.proofs.Differences.{difference-fine, difference-says}
 use Rattle.past.proofs.Steps.{Adds, Begins, step-add, step-first}
 
--- what no call changes: the session and keep of the creation, and stores within their limits
-pub record Frame (session keep : ℕ) (w : World) : Type 0 where
+-- what no call changes: the session, keep and start serial of the creation, and stores within their limits
+pub record Frame (session keep : ℕ) (start : Serial) (w : World) : Type 0 where
   pub of-session : w .history .session ≡ session
   pub of-keep : w .history .keep ≡ keep
+  pub of-start : w .history .start ≡ start
+  pub bound : start .0 < 2 ^ 32
   pub least : 1 ≤ keep
   pub most : keep ≤ 64
   pub snapshots : length (w .snapshots) ≤ limit Snapshot
   pub deltas : length (w .deltas) ≤ limit Delta
 
 -- before the first snapshot
-pub record Waits (session keep : ℕ) (w : World) : Type 0 where
-  pub frame : Frame session keep w
+pub record Waits (session keep : ℕ) (start : Serial) (w : World) : Type 0 where
+  pub frame : Frame session keep start w
   pub active : w .history .active ≡ false
-  pub serial : w .history .newest .0 ≡ 0
+  pub serial : w .history .newest .0 ≡ start .0
   pub count : w .history .n ≡ 0
   pub snapshot : w .history .snapshot ≡ 0
 
 abbrev pub FineDelta : Bytes → Type 0
 FineDelta d = verdict Delta d ≡ Fine
 
--- after the first snapshot S and the changed ones Ts: the newest is held, F is the count of changes modulo 2^32,
+-- after the first snapshot S and the changed ones Ts: the newest is held, F is the start serial plus the count of changes, modulo 2^32,
 -- and the held deltas are good, are the last differences, as many as are kept, and say them
-pub record Holds (session keep : ℕ) (w : World) (S : Bytes) (Ts : List Bytes) : Type 0 where
-  pub frame : Frame session keep w
+pub record Holds (session keep : ℕ) (start : Serial) (w : World) (S : Bytes) (Ts : List Bytes) : Type 0 where
+  pub frame : Frame session keep start w
   pub active : w .history .active ≡ true
-  pub serial : w .history .newest .0 ≡ length Ts % 2 ^ 32
+  pub serial : w .history .newest .0 ≡ (start .0 + length Ts) % 2 ^ 32
   pub good : GoodSnapshot S
   pub goods : All GoodSnapshot Ts
   pub current : heldSnapshot (w .history) (w .snapshots) ≡ newest S Ts
@@ -71,9 +74,9 @@ pub record Holds (session keep : ℕ) (w : World) (S : Bytes) (Ts : List Bytes) 
   pub within : w .history .snapshot ≤ length (w .snapshots)
   pub room : total (heldLengths (w .history)) ≤ length (w .deltas)
 
-abbrev pub Inv : ℕ → ℕ → World → List Bytes → Type 0
-Inv session keep w [] = Waits session keep w
-Inv session keep w (S ∷ Ts) = Holds session keep w S Ts
+abbrev pub Inv : ℕ → ℕ → Serial → World → List Bytes → Type 0
+Inv session keep start w [] = Waits session keep start w
+Inv session keep start w (S ∷ Ts) = Holds session keep start w S Ts
 
 -- ---- it is well formed
 
@@ -88,19 +91,19 @@ nil-good : isGood Snapshot [] ≡ true
 unfolding verdict verdictF judge front
 nil-good = refl
 
-module _ {session keep : ℕ} {w : World} where
-  keep-good : Frame session keep w → goodKeep (w .history .keep) ≡ true
+module _ {session keep : ℕ} {start : Serial} {w : World} where
+  keep-good : Frame session keep start w → goodKeep (w .history .keep) ≡ true
   keep-good f = and (le-leb 1 (w .history .keep) (omega arith)) (le-leb (w .history .keep) 64 (omega arith))
 
   -- as many deltas are held as there were changes, up to keep
-  pub holds-count : {S : Bytes} {Ts : List Bytes} → Holds session keep w S Ts → w .history .n ≡ min keep (length Ts)
+  pub holds-count : {S : Bytes} {Ts : List Bytes} → Holds session keep start w S Ts → w .history .n ≡ min keep (length Ts)
   holds-count {S} {Ts} i =
       i .count ∙ sym (length-map (heldDeltas (w .history) (w .deltas)) changes) ∙ ap length (i .says)
       ∙ lastN-length keep (diffs bytes bytes (items S) (map items Ts))
       ∙ ap (min keep) (diffs-length bytes bytes (items S) (map items Ts) ∙ length-map Ts items)
 
   -- with one more snapshot the last differences are held
-  pub would-hold : {S : Bytes} {Ts : List Bytes} → Holds session keep w S Ts → (new : Bytes) →
+  pub would-hold : {S : Bytes} {Ts : List Bytes} → Holds session keep start w S Ts → (new : Bytes) →
       deltasWith (w .history) (w .deltas) (differenceOf (heldSnapshot (w .history) (w .snapshots)) new) ≡ lastN keep (steps differenceOf S (Ts ++ (new ∷ [])))
   would-hold {S} {Ts} i new =
       let c : w .history .n ≡ min keep (length Ts) = holds-count i in
@@ -109,18 +112,21 @@ module _ {session keep : ℕ} {w : World} where
       pushed-last (w .history .n) (w .history .keep) (heldDeltas (w .history) (w .deltas)) (differenceOf (heldSnapshot (w .history) (w .snapshots)) new) (omega arith) (i .count) (omega arith)
       ∙ rw (k, i .are, i .current, steps-push differenceOf S Ts new) (lastN-push keep (steps differenceOf S Ts) (differenceOf (newest S Ts) new))
 
-  -- with none held the serial is 0
-  pub holds-zero : {S : Bytes} {Ts : List Bytes} → Holds session keep w S Ts → w .history .n ≡ 0 → w .history .newest .0 ≡ 0
-  holds-zero i e = let c = holds-count i in let s = i .serial in let f = i .frame in omega arith
+  start-of : Frame session keep start w → w .history .start .0 ≡ start .0
+  start-of f = ap (λ (s : Serial). s .0) (f .of-start)
 
-  serial-good : {S : Bytes} {Ts : List Bytes} → Holds session keep w S Ts → goodSerial (w .history) ≡ true
+  -- with none held the serial is the start serial
+  pub holds-zero : {S : Bytes} {Ts : List Bytes} → Holds session keep start w S Ts → w .history .n ≡ 0 → w .history .newest .0 ≡ w .history .start .0
+  holds-zero i e = let c = holds-count i in let s = i .serial in let f = i .frame in let b = start-of f in omega arith
+
+  serial-good : {S : Bytes} {Ts : List Bytes} → Holds session keep start w S Ts → goodSerial (w .history) ≡ true
   serial-good i = rw (i .active) (go (eqb (w .history .n) 0) refl)
     where
-      go : (t : Bool) → eqb (w .history .n) 0 ≡ t → cond t (eqb (w .history .newest .0) 0) true ≡ true
-      go true e = eq-eqb (w .history .newest .0) 0 (holds-zero i (eqb-true (w .history .n) 0 e))
+      go : (t : Bool) → eqb (w .history .n) 0 ≡ t → cond t (eqb (w .history .newest .0) (w .history .start .0)) true ≡ true
+      go true e = eq-eqb (w .history .newest .0) (w .history .start .0) (holds-zero i (eqb-true (w .history .n) 0 e))
       go false e = refl
 
-  pub holds-formed : {S : Bytes} {Ts : List Bytes} → Holds session keep w S Ts → wellFormed (w .history) (w .snapshots) (w .deltas) ≡ true
+  pub holds-formed : {S : Bytes} {Ts : List Bytes} → Holds session keep start w S Ts → wellFormed (w .history) (w .snapshots) (w .deltas) ≡ true
   unfolding wellFormed
   holds-formed {S} {Ts} i =
       let f = i .frame in
@@ -132,13 +138,13 @@ module _ {session keep : ℕ} {w : World} where
       let snapshot : isGood Snapshot (heldSnapshot (w .history) (w .snapshots)) ≡ true = rw (i .current, all-newest GoodSnapshot S Ts (i .good) (i .goods) .fine) in
       and (and (and (and range (serial-good i)) start) stores) (and snapshot (every-fine (heldDeltas (w .history) (w .deltas)) (i .fine)))
 
-  pub waits-formed : Waits session keep w → wellFormed (w .history) (w .snapshots) (w .deltas) ≡ true
+  pub waits-formed : Waits session keep start w → wellFormed (w .history) (w .snapshots) (w .deltas) ≡ true
   unfolding wellFormed
   waits-formed i =
       let f = i .frame in
       let c = i .count in
       let range = and (keep-good f) (le-leb (w .history .n) (w .history .keep) (omega arith)) in
-      let serial : goodSerial (w .history) ≡ true = rw (i .active, i .serial) in
+      let serial : goodSerial (w .history) ≡ true = rw (i .active, eq-eqb (w .history .newest .0) (w .history .start .0) (i .serial ∙ sym (start-of f))) in
       let start : goodStart (w .history) ≡ true = rw (i .active, i .count, i .snapshot) in
       let limits = and (le-leb (length (w .snapshots)) (limit Snapshot) (f .snapshots)) (le-leb (length (w .deltas)) (limit Delta) (f .deltas)) in
       let none : total (heldLengths (w .history)) ≡ 0 = rw (i .count) in
@@ -148,16 +154,16 @@ module _ {session keep : ℕ} {w : World} where
       and (and (and (and range serial) start) stores) (and snapshot deltas)
 
 -- so refusal 7 never comes
-pub inv-formed : (session keep : ℕ) (w : World) (given : List Bytes) → Inv session keep w given → wellFormed (w .history) (w .snapshots) (w .deltas) ≡ true
-inv-formed session keep w [] i = waits-formed i
-inv-formed session keep w (S ∷ Ts) i = holds-formed i
+pub inv-formed : (session keep : ℕ) (start : Serial) (w : World) (given : List Bytes) → Inv session keep start w given → wellFormed (w .history) (w .snapshots) (w .deltas) ≡ true
+inv-formed session keep start w [] i = waits-formed i
+inv-formed session keep start w (S ∷ Ts) i = holds-formed i
 
 -- ---- every call keeps it
 
 never-both : {b : Bool} → b ≡ false → b ≡ true → ⊥
 never-both p q = let z : _≡_ {A = ℕ} 0 1 = cc in omega arith
 
-module _ (session keep : ℕ) (w : World) (new : Bytes) (octets : AllBytes new) where
+module _ (session keep : ℕ) (start : Serial) (w : World) (new : Bytes) (octets : AllBytes new) where
   -- what a step leaves
   abbrev after : Step → World
   after s = record {
@@ -166,7 +172,7 @@ module _ (session keep : ℕ) (w : World) (new : Bytes) (octets : AllBytes new) 
     deltas = deltasAt s (w .history) (w .deltas);
   }
 
-  begin : Waits session keep w → Begins (w .history) new (w .snapshots) → Holds session keep (after first) new []
+  begin : Waits session keep start w → Begins (w .history) new (w .snapshots) → Holds session keep start (after first) new []
   begin i b =
       let f = i .frame in
       let l : length (storeAfter new (w .snapshots)) ≡ length (w .snapshots) = store-length new (w .snapshots) (b .fits) in
@@ -174,13 +180,15 @@ module _ (session keep : ℕ) (w : World) (new : Bytes) (octets : AllBytes new) 
         frame = record {
           of-session = f .of-session;
           of-keep = f .of-keep;
+          of-start = f .of-start;
+          bound = f .bound;
           least = f .least;
           most = f .most;
           snapshots = rw l (f .snapshots);
           deltas = f .deltas;
         };
         active = refl;
-        serial = i .serial;
+        serial = let e = i .serial in let b = f .bound in omega arith;
         good = record { octets = octets; fine = b .fine };
         goods = tt;
         current = take-append-seam new (drop (length new) (w .snapshots));
@@ -192,7 +200,7 @@ module _ (session keep : ℕ) (w : World) (new : Bytes) (octets : AllBytes new) 
         room = omega arith;
       }
 
-  module _ (S : Bytes) (Ts : List Bytes) (i : Holds session keep w S Ts) (d : Bytes) (a : Adds (w .history) new (w .snapshots) (w .deltas) d) where
+  module _ (S : Bytes) (Ts : List Bytes) (i : Holds session keep start w S Ts) (d : Bytes) (a : Adds (w .history) new (w .snapshots) (w .deltas) d) where
     is-difference : d ≡ differenceOf (newest S Ts) new
     is-difference = rw (← i .current) (a .difference)
 
@@ -226,7 +234,7 @@ module _ (session keep : ℕ) (w : World) (new : Bytes) (octets : AllBytes new) 
         ∙ pushed-last (w .history .n) (w .history .keep) (map changes (heldDeltas (w .history) (w .deltas))) (changes d) (omega arith) m (omega arith)
         ∙ rw (k, i .says, e, map-push items Ts new) (held-push bytes bytes keep (items S) (map items Ts) (items new))
 
-    grow : Holds session keep (after (add d)) S (Ts ++ (new ∷ []))
+    grow : Holds session keep start (after (add d)) S (Ts ++ (new ∷ []))
     grow =
         let f = i .frame in
         let j : length (joined next) ≡ total (map length next) = joined-length next in
@@ -237,6 +245,8 @@ module _ (session keep : ℕ) (w : World) (new : Bytes) (octets : AllBytes new) 
           frame = record {
             of-session = f .of-session;
             of-keep = f .of-keep;
+            of-start = f .of-start;
+            bound = f .bound;
             least = f .least;
             most = f .most;
             snapshots = rw l (f .snapshots);
@@ -256,12 +266,12 @@ module _ (session keep : ℕ) (w : World) (new : Bytes) (octets : AllBytes new) 
         }
 
   -- an update
-  update-inv : (given : List Bytes) → Inv session keep w given → Inv session keep (stepOf w (update new)) (givenAfter w (update new) given)
+  update-inv : (given : List Bytes) → Inv session keep start w given → Inv session keep start (stepOf w (update new)) (givenAfter w (update new) given)
   unfolding updateOf updateSnapshots updateDeltas
   update-inv [] i = go (stepFor (w .history) new (w .snapshots) (w .deltas)) refl
     where
       go : (s : Step) → stepFor (w .history) new (w .snapshots) (w .deltas) ≡ s →
-          Inv session keep (after s) (givenBy (updateAt s (w .history) new (w .deltas) .answer) new [])
+          Inv session keep start (after s) (givenBy (updateAt s (w .history) new (w .deltas) .answer) new [])
       go (refuse r) e = i
       go first e = begin i (step-first (w .history) new (w .snapshots) (w .deltas) e)
       go unchanged e = i
@@ -269,17 +279,17 @@ module _ (session keep : ℕ) (w : World) (new : Bytes) (octets : AllBytes new) 
   update-inv (S ∷ Ts) i = go (stepFor (w .history) new (w .snapshots) (w .deltas)) refl
     where
       go : (s : Step) → stepFor (w .history) new (w .snapshots) (w .deltas) ≡ s →
-          Inv session keep (after s) (givenBy (updateAt s (w .history) new (w .deltas) .answer) new (S ∷ Ts))
+          Inv session keep start (after s) (givenBy (updateAt s (w .history) new (w .deltas) .answer) new (S ∷ Ts))
       go (refuse r) e = i
       go first e = absurd (never-both (step-first (w .history) new (w .snapshots) (w .deltas) e .active) (i .active))
       go unchanged e = i
       go (add d) e = grow S Ts i d (step-add (w .history) new (w .snapshots) (w .deltas) d e)
 
 -- any call
-pub call-inv : (session keep : ℕ) (w : World) (given : List Bytes) (c : Call) → OfBytes c → Inv session keep w given →
-    Inv session keep (stepOf w c) (givenAfter w c given)
-call-inv session keep w given (update new) o i = update-inv session keep w new o given i
-call-inv session keep w given (query s asked out) o i = i
-call-inv session keep w given full o i = i
-call-inv session keep w given notify o i = i
-call-inv session keep w given ready o i = i
+pub call-inv : (session keep : ℕ) (start : Serial) (w : World) (given : List Bytes) (c : Call) → OfBytes c → Inv session keep start w given →
+    Inv session keep start (stepOf w c) (givenAfter w c given)
+call-inv session keep start w given (update new) o i = update-inv session keep start w new o given i
+call-inv session keep start w given (query s asked out) o i = i
+call-inv session keep start w given full o i = i
+call-inv session keep start w given notify o i = i
+call-inv session keep start w given ready o i = i

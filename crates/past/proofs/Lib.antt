@@ -9,6 +9,7 @@ pub mod Queries
 pub mod Creation
 pub mod Ordered
 pub mod Runs
+pub mod Start
 pub mod Marked
 pub mod Examples
 pub mod Shortest

@@ -26,18 +26,18 @@ near-before f a hf ha l = go (eqb (distanceOf f a) 0) refl
     go false e = let z = eqb-false (distanceOf f a) 0 e in inr (sym (stands-before a f ha hf (distanceOf a f) refl (omega arith) (omega arith)))
 
 -- with a keep of 1 to 64 every serial of the rule is
-pub rule-before : (keep : ℕ) (given : List Bytes) (asked : Serial) → 1 ≤ keep → keep ≤ 64 → asked .0 < 2 ^ 32 → InRule keep given asked →
-    (standing asked (serialIn given) ≡ Equal) ⊎ (standing asked (serialIn given) ≡ Before)
-rule-before keep given asked least most l r =
-    let z : min keep (changesIn given) ≡ 0 → serialIn given .0 ≡ 0 = λ e. omega arith in
-    let w = rule-within (min keep (changesIn given)) (serialIn given) asked z r in
-    near-before (serialIn given) asked (omega arith) l (omega arith)
+pub rule-before : (keep : ℕ) (start : Serial) (given : List Bytes) (asked : Serial) → 1 ≤ keep → keep ≤ 64 → start .0 < 2 ^ 32 → asked .0 < 2 ^ 32 → InRule keep start given asked →
+    (standing asked (serialIn start given) ≡ Equal) ⊎ (standing asked (serialIn start given) ≡ Before)
+rule-before keep start given asked least most k l r =
+    let z : min keep (changesIn given) ≡ 0 → serialIn start given .0 ≡ start .0 = λ e. omega arith in
+    let w = rule-within start (min keep (changesIn given)) (serialIn start given) asked l z r in
+    near-before (serialIn start given) asked (omega arith) l (omega arith)
 
 -- and none that is unordered
-pub rule-unordered : (keep : ℕ) (given : List Bytes) (asked : Serial) → 1 ≤ keep → keep ≤ 64 → asked .0 < 2 ^ 32 → standing asked (serialIn given) ≡ Unordered →
-    ¬ InRule keep given asked
-rule-unordered keep given asked least most l u r = go (rule-before keep given asked least most l r)
+pub rule-unordered : (keep : ℕ) (start : Serial) (given : List Bytes) (asked : Serial) → 1 ≤ keep → keep ≤ 64 → start .0 < 2 ^ 32 → asked .0 < 2 ^ 32 →
+    standing asked (serialIn start given) ≡ Unordered → ¬ InRule keep start given asked
+rule-unordered keep start given asked least most k l u r = go (rule-before keep start given asked least most k l r)
   where
-    go : (standing asked (serialIn given) ≡ Equal) ⊎ (standing asked (serialIn given) ≡ Before) → ⊥
+    go : (standing asked (serialIn start given) ≡ Equal) ⊎ (standing asked (serialIn start given) ≡ Before) → ⊥
     go (inl e) = let z : _≡_ {A = ℕ} 0 1 = cc in omega arith
     go (inr e) = let z : _≡_ {A = ℕ} 0 1 = cc in omega arith

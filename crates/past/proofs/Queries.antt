@@ -95,7 +95,7 @@ module _ (h : History) (session : Session) (asked : Serial) (snapshots deltas : 
   same = isSession h session
 
   abbrev served : Bool
-  served = isServed (h .n) asked (distanceOf (h .newest) asked)
+  served = isServed (h .start) (h .n) asked (distanceOf (h .newest) asked)
 
   abbrev D : Bytes
   D = answerOf h asked deltas
@@ -130,21 +130,21 @@ module _ (h : History) (session : Session) (asked : Serial) (snapshots deltas : 
     )
 
     -- else 6 exactly for a serial that is not served
-    pub six : queryOf h session asked snapshots deltas room .answer ≡ Refused NotServed ↔ (wellFormed h snapshots deltas ≡ true) × (isSession h session ≡ true) × (isServed (h .n) asked (distanceOf (h .newest) asked) ≡ false)
+    pub six : queryOf h session asked snapshots deltas room .answer ≡ Refused NotServed ↔ (wellFormed h snapshots deltas ≡ true) × (isSession h session ≡ true) × (isServed (h .start) (h .n) asked (distanceOf (h .newest) asked) ≡ false)
     six = (
       λ e. six-by (countsOf D) formed same served (leb (length D) room) (sym (answer-by room) ∙ e),
       λ e. answer-by room ∙ rw (e .0, e .1, e .2),
     )
 
     -- else 4 exactly for an answer that is longer than the output lent
-    pub four : queryOf h session asked snapshots deltas room .answer ≡ Refused NoRoom ↔ (wellFormed h snapshots deltas ≡ true) × (isSession h session ≡ true) × (isServed (h .n) asked (distanceOf (h .newest) asked) ≡ true) × (leb (length (answerOf h asked deltas)) room ≡ false)
+    pub four : queryOf h session asked snapshots deltas room .answer ≡ Refused NoRoom ↔ (wellFormed h snapshots deltas ≡ true) × (isSession h session ≡ true) × (isServed (h .start) (h .n) asked (distanceOf (h .newest) asked) ≡ true) × (leb (length (answerOf h asked deltas)) room ≡ false)
     four = (
       λ e. four-by (countsOf D) formed same served (leb (length D) room) (sym (answer-by room) ∙ e),
       λ e. answer-by room ∙ rw (e .0, e .1, e .2, e .3),
     )
 
     -- else the answer is served, with its length and counts
-    pub serves : wellFormed h snapshots deltas ≡ true → isSession h session ≡ true → isServed (h .n) asked (distanceOf (h .newest) asked) ≡ true →
+    pub serves : wellFormed h snapshots deltas ≡ true → isSession h session ≡ true → isServed (h .start) (h .n) asked (distanceOf (h .newest) asked) ≡ true →
         length (answerOf h asked deltas) ≤ room → queryOf h session asked snapshots deltas room ≡ servedWith h (answerOf h asked deltas)
     unfolding queryOf
     serves e f g l = rw (e, f, g, le-leb (length D) room l)
@@ -154,7 +154,7 @@ module _ (h : History) (session : Session) (asked : Serial) (snapshots deltas : 
     found : (formed ≡ true) × (same ≡ true) × (served ≡ true) × (leb (length D) (length out) ≡ true) × (c ≡ countsOf D)
     found = served-by (countsOf D) formed same served (leb (length D) (length out)) c (sym (answer-by (length out)) ∙ e)
 
-    pub found-served : isServed (h .n) asked (distanceOf (h .newest) asked) ≡ true
+    pub found-served : isServed (h .start) (h .n) asked (distanceOf (h .newest) asked) ≡ true
     found-served = found .2
 
     pub out-served : take (c .len) (queryOut h session asked snapshots deltas out) ≡ answerOf h asked deltas

@@ -105,8 +105,8 @@ formed-seven w f ready e = none≢some refl e
 
 -- ---- what a served query gets
 
-module _ {session keep : ℕ} {w : World} {S : Bytes} {Ts : List Bytes} (i : Holds session keep w S Ts) (asked : Serial)
-    (served : isServed (w .history .n) asked (distanceOf (w .history .newest) asked) ≡ true) where
+module _ {session keep : ℕ} {start : Serial} {w : World} {S : Bytes} {Ts : List Bytes} (i : Holds session keep start w S Ts) (asked : Serial) (below : asked .0 < 2 ^ 32)
+    (served : isServed (w .history .start) (w .history .n) asked (distanceOf (w .history .newest) asked) ≡ true) where
   -- how many changes ago the serial asked for was the newest, and the snapshot that carried it then
   abbrev d : ℕ
   d = distanceOf (w .history .newest) asked
@@ -117,7 +117,7 @@ module _ {session keep : ℕ} {w : World} {S : Bytes} {Ts : List Bytes} (i : Hol
   near : (d ≤ keep) × (d ≤ length Ts)
   near =
       let c = holds-count i in
-      let l = rule-within (w .history .n) (w .history .newest) asked (holds-zero i) (served-rule (w .history .n) asked d served) in
+      let l = rule-within (w .history .start) (w .history .n) (w .history .newest) asked below (holds-zero i) (served-rule (w .history .start) (w .history .n) asked d served) in
       omega arith
 
   good-base : GoodSnapshot base
@@ -139,17 +139,17 @@ module _ {session keep : ℕ} {w : World} {S : Bytes} {Ts : List Bytes} (i : Hol
   unfolding mergedLast differenceOf
   answer-is = ap (encode Delta) merged-is
 
-  pub base-carried : asked .0 < 2 ^ 32 → carried asked (S ∷ Ts) ≡ some base
-  base-carried l = carried-back (w .history .newest) asked S Ts l (i .serial) (near .1)
+  pub base-carried : carried start asked (S ∷ Ts) ≡ some base
+  base-carried = carried-back start (w .history .newest) asked S Ts (i .frame .bound) below (i .serial) (near .1)
 
   -- it is what is due
-  pub answer-due : asked .0 < 2 ^ 32 → answerOf (w .history) asked (w .deltas) ≡ due w (S ∷ Ts) asked
-  answer-due l = rw (base-carried l, i .current) answer-is
+  pub answer-due : answerOf (w .history) asked (w .deltas) ≡ due w start (S ∷ Ts) asked
+  answer-due = rw (base-carried, i .current) answer-is
 
-  pub answer-leads : asked .0 < 2 ^ 32 → Leads (S ∷ Ts) (current w) asked (answerOf (w .history) asked (w .deltas))
-  answer-leads l = rw (answer-is, i .current) (record {
+  pub answer-leads : Leads start (S ∷ Ts) (current w) asked (answerOf (w .history) asked (w .deltas))
+  answer-leads = rw (answer-is, i .current) (record {
     base = base;
-    most-recent = base-carried l;
+    most-recent = base-carried;
     applies = difference-applies base (newest S Ts) good-base good-newest;
     fits = difference-fits base (newest S Ts) good-base good-newest;
     yields = difference-yields base (newest S Ts) good-base good-newest;
@@ -157,7 +157,7 @@ module _ {session keep : ℕ} {w : World} {S : Bytes} {Ts : List Bytes} (i : Hol
   })
 
 -- before the first snapshot nothing is due
-waits-due : {session keep : ℕ} {w : World} → Waits session keep w → (asked : Serial) → answerOf (w .history) asked (w .deltas) ≡ []
+waits-due : {session keep : ℕ} {start : Serial} {w : World} → Waits session keep start w → (asked : Serial) → answerOf (w .history) asked (w .deltas) ≡ []
 unfolding mergedLast encode run.encode
 waits-due {w = w} i asked = rw (i .count, drop-nil (0 - distanceOf (w .history .newest) asked))
 
@@ -171,10 +171,10 @@ served-path p q r = λ i. record { session = p i; serial = q i; answer = answers
 -- ---- every run
 
 -- a creation that is done leaves a fresh history
-start-inv : (session keep : ℕ) (snapshots deltas : Bytes) → createOf session keep snapshots deltas .answer ≡ Done →
-    Inv session keep (startOf session keep snapshots deltas .world) []
+start-inv : (session keep : ℕ) (start : Serial) (snapshots deltas : Bytes) → start .0 < 2 ^ 32 → createOf session keep start snapshots deltas .answer ≡ Done →
+    Inv session keep start (startOf session keep start snapshots deltas .world) []
 unfolding createOf
-start-inv session keep snapshots deltas = go (goodKeep keep) refl (leb (length snapshots) (limit Snapshot)) refl (leb (length deltas) (limit Delta)) refl
+start-inv session keep start snapshots deltas bound = go (goodKeep keep) refl (leb (length snapshots) (limit Snapshot)) refl (leb (length deltas) (limit Delta)) refl
   where
     admitted : Bool → Bool → Bool → Admitted
     admitted t u v = andThen (cond t Yes (No BadKeep)) (andThen (cond u Yes (No (TooLong 1))) (cond v Yes (No (TooLong 2))))
@@ -183,14 +183,16 @@ start-inv session keep snapshots deltas = go (goodKeep keep) refl (leb (length s
     refusal e = absurd (let z : _≡_ {A = ℕ} 0 1 = cc in omega arith)
 
     go : (t : Bool) → goodKeep keep ≡ t → (u : Bool) → leb (length snapshots) (limit Snapshot) ≡ u → (v : Bool) → leb (length deltas) (limit Delta) ≡ v →
-        createAt (admitted t u v) session keep .answer ≡ Done →
-        Waits session keep (record { history = createAt (admitted t u v) session keep .history; snapshots = snapshots; deltas = deltas })
+        createAt (admitted t u v) session keep start .answer ≡ Done →
+        Waits session keep start (record { history = createAt (admitted t u v) session keep start .history; snapshots = snapshots; deltas = deltas })
     go true p true q true r e =
         let k = both (leb 1 keep) (leb keep 64) p in
         record {
           frame = record {
             of-session = refl;
             of-keep = refl;
+            of-start = refl;
+            bound = bound;
             least = leb-true 1 keep (k .0);
             most = leb-true keep 64 (k .1);
             snapshots = leb-true (length snapshots) (limit Snapshot) q;
@@ -205,31 +207,31 @@ start-inv session keep snapshots deltas = go (goodKeep keep) refl (leb (length s
     go true p false q v r e = refusal e
     go false p u q v r e = refusal e
 
-run-inv : (session keep : ℕ) (r : Run) (calls : List Call) → All OfBytes calls → Inv session keep (r .world) (r .given) →
-    Inv session keep (runOf r calls .world) (runOf r calls .given)
-run-inv session keep r [] o i = i
-run-inv session keep r (c ∷ calls) o i = run-inv session keep _ calls (o .1) (call-inv session keep (r .world) (r .given) c (o .0) i)
+run-inv : (session keep : ℕ) (start : Serial) (r : Run) (calls : List Call) → All OfBytes calls → Inv session keep start (r .world) (r .given) →
+    Inv session keep start (runOf r calls .world) (runOf r calls .given)
+run-inv session keep start r [] o i = i
+run-inv session keep start r (c ∷ calls) o i = run-inv session keep start _ calls (o .1) (call-inv session keep start (r .world) (r .given) c (o .0) i)
 
-module _ (session keep : ℕ) (w : World) where
-  inv-frame : (given : List Bytes) → Inv session keep w given → Frame session keep w
+module _ (session keep : ℕ) (start : Serial) (w : World) where
+  inv-frame : (given : List Bytes) → Inv session keep start w given → Frame session keep start w
   inv-frame [] i = i .frame
   inv-frame (S ∷ Ts) i = i .frame
 
-  inv-serial : (given : List Bytes) → Inv session keep w given → w .history .newest ≡ serialIn given
-  inv-serial [] i = same-serial (i .serial)
+  inv-serial : (given : List Bytes) → Inv session keep start w given → w .history .newest ≡ serialIn start given
+  inv-serial [] i = let e = i .serial in let b = i .frame .bound in same-serial {m = w .history .newest .0} (omega arith)
   inv-serial (S ∷ Ts) i = let e = i .serial in same-serial {m = w .history .newest .0} (omega arith)
 
-  inv-count : (given : List Bytes) → Inv session keep w given → w .history .n ≡ min keep (changesIn given)
+  inv-count : (given : List Bytes) → Inv session keep start w given → w .history .n ≡ min keep (changesIn given)
   inv-count [] i = let e = i .count in omega arith
   inv-count (S ∷ Ts) i = let e = holds-count i in omega arith
 
-  inv-length : (given : List Bytes) → Inv session keep w given → length (current w) ≡ w .history .snapshot
+  inv-length : (given : List Bytes) → Inv session keep start w given → length (current w) ≡ w .history .snapshot
   inv-length [] i = let e = i .snapshot in length-take (w .history .snapshot) (w .snapshots) ∙ omega arith
   inv-length (S ∷ Ts) i = let e = i .within in length-take (w .history .snapshot) (w .snapshots) ∙ omega arith
 
-  module _ (given : List Bytes) (i : Inv session keep w given) where
+  module _ (given : List Bytes) (i : Inv session keep start w given) where
     formed : wellFormed (w .history) (w .snapshots) (w .deltas) ≡ true
-    formed = inv-formed session keep w given i
+    formed = inv-formed session keep start w given i
 
     -- the session of the creation
     same-session : (s : Session) → isSession (w .history) s ≡ eqb (s .0) (session % 65_536)
@@ -247,24 +249,24 @@ module _ (session keep : ℕ) (w : World) where
     same-name = ap sessionOf (inv-frame given i .of-session)
 
     -- the rule of the run's own counts
-    same-served : (asked : Serial) → isServed (w .history .n) asked (distanceOf (w .history .newest) asked) ≡ isServed (min keep (changesIn given)) asked (distanceOf (serialIn given) asked)
-    same-served asked = rw (inv-count given i, inv-serial given i)
+    same-served : (asked : Serial) → isServed (w .history .start) (w .history .n) asked (distanceOf (w .history .newest) asked) ≡ isServed start (min keep (changesIn given)) asked (distanceOf (serialIn start given) asked)
+    same-served asked = rw (inv-frame given i .of-start, inv-count given i, inv-serial given i)
 
-    rule-of : (asked : Serial) → isServed (w .history .n) asked (distanceOf (w .history .newest) asked) ≡ true ↔ InRule keep given asked
+    rule-of : (asked : Serial) → isServed (w .history .start) (w .history .n) asked (distanceOf (w .history .newest) asked) ≡ true ↔ InRule keep start given asked
     rule-of asked = (
-      λ e. served-rule (min keep (changesIn given)) asked (distanceOf (serialIn given) asked) (sym (same-served asked) ∙ e),
-      λ r. same-served asked ∙ rule-served (min keep (changesIn given)) asked (distanceOf (serialIn given) asked) r,
+      λ e. served-rule start (min keep (changesIn given)) asked (distanceOf (serialIn start given) asked) (sym (same-served asked) ∙ e),
+      λ r. same-served asked ∙ rule-served start (min keep (changesIn given)) asked (distanceOf (serialIn start given) asked) r,
     )
 
-    unserved : (asked : Serial) → ¬ InRule keep given asked → isServed (w .history .n) asked (distanceOf (w .history .newest) asked) ≡ false
-    unserved asked n = go (isServed (w .history .n) asked (distanceOf (w .history .newest) asked)) refl
+    unserved : (asked : Serial) → ¬ InRule keep start given asked → isServed (w .history .start) (w .history .n) asked (distanceOf (w .history .newest) asked) ≡ false
+    unserved asked n = go (isServed (w .history .start) (w .history .n) asked (distanceOf (w .history .newest) asked)) refl
       where
-        go : (b : Bool) → isServed (w .history .n) asked (distanceOf (w .history .newest) asked) ≡ b → b ≡ false
+        go : (b : Bool) → isServed (w .history .start) (w .history .n) asked (distanceOf (w .history .newest) asked) ≡ b → b ≡ false
         go true e = absurd (n (rule-of asked .0 e))
         go false e = refl
 
     inv-six : (s : Session) (asked : Serial) (out : Bytes) →
-        refusedAs (replyOf w (query s asked out)) ≡ refusal 6 0 0 ↔ (s .0 ≡ session % 65_536) × ¬ InRule keep given asked
+        refusedAs (replyOf w (query s asked out)) ≡ refusal 6 0 0 ↔ (s .0 ≡ session % 65_536) × ¬ InRule keep start given asked
     inv-six s asked out =
         let q = queries.six (w .history) s asked (w .snapshots) (w .deltas) (length out) in
         through (answer-refused (queriedIn w s asked (length out) .answer) NotServed) (
@@ -276,17 +278,17 @@ module _ (session keep : ℕ) (w : World) where
         )
 
     -- what a served query gets is what is due
-    inv-due : (asked : Serial) → asked .0 < 2 ^ 32 → isServed (w .history .n) asked (distanceOf (w .history .newest) asked) ≡ true →
-        answerOf (w .history) asked (w .deltas) ≡ due w given asked
+    inv-due : (asked : Serial) → asked .0 < 2 ^ 32 → isServed (w .history .start) (w .history .n) asked (distanceOf (w .history .newest) asked) ≡ true →
+        answerOf (w .history) asked (w .deltas) ≡ due w start given asked
     inv-due asked l v = go given i
       where
-        go : (given : List Bytes) → Inv session keep w given → answerOf (w .history) asked (w .deltas) ≡ due w given asked
+        go : (given : List Bytes) → Inv session keep start w given → answerOf (w .history) asked (w .deltas) ≡ due w start given asked
         go [] i = waits-due i asked
-        go (S ∷ Ts) i = answer-due i asked v l
+        go (S ∷ Ts) i = answer-due i asked l v
 
     inv-four : (s : Session) (asked : Serial) (out : Bytes) → asked .0 < 2 ^ 32 →
         refusedAs (replyOf w (query s asked out)) ≡ refusal 4 0 0
-        ↔ (s .0 ≡ session % 65_536) × InRule keep given asked × (length out < length (due w given asked))
+        ↔ (s .0 ≡ session % 65_536) × InRule keep start given asked × (length out < length (due w start given asked))
     inv-four s asked out l =
         let q = queries.four (w .history) s asked (w .snapshots) (w .deltas) (length out) in
         through (answer-refused (queriedIn w s asked (length out) .answer) NoRoom) (
@@ -307,10 +309,10 @@ module _ (session keep : ℕ) (w : World) where
               ),
         )
 
-    inv-serves : (s : Session) (asked : Serial) (out : Bytes) → asked .0 < 2 ^ 32 → s .0 ≡ session % 65_536 → InRule keep given asked →
-        length (due w given asked) ≤ length out →
+    inv-serves : (s : Session) (asked : Serial) (out : Bytes) → asked .0 < 2 ^ 32 → s .0 ≡ session % 65_536 → InRule keep start given asked →
+        length (due w start given asked) ≤ length out →
         replyOf w (query s asked out)
-        ≡ queried (record { session = sessionOf session; serial = serialIn given; answer = answers.Served (countsOf (due w given asked)) }) (holding (due w given asked) out)
+        ≡ queried (record { session = sessionOf session; serial = serialIn start given; answer = answers.Served (countsOf (due w start given asked)) }) (holding (due w start given asked) out)
     inv-serves s asked out l e r k =
         let v = rule-of asked .1 r in
         let d = inv-due asked l v in
@@ -321,23 +323,23 @@ module _ (session keep : ℕ) (w : World) where
         ∙ ap (λ (x : Bytes). holding x out) d)
 
     inv-ordered : (s : Session) (asked : Serial) (out : Bytes) (c : Counts) → asked .0 < 2 ^ 32 → queriedIn w s asked (length out) .answer ≡ answers.Served c →
-        (standing asked (serialIn given) ≡ Equal) ⊎ (standing asked (serialIn given) ≡ Before)
+        (standing asked (serialIn start given) ≡ Equal) ⊎ (standing asked (serialIn start given) ≡ Before)
     inv-ordered s asked out c l e =
         let f = inv-frame given i in
-        rule-before keep given asked (f .least) (f .most) l (rule-of asked .0 (queries.found-served (w .history) s asked (w .snapshots) (w .deltas) out c e))
+        rule-before keep start given asked (f .least) (f .most) (f .bound) l (rule-of asked .0 (queries.found-served (w .history) s asked (w .snapshots) (w .deltas) out c e))
 
-    inv-unordered : (s : Session) (asked : Serial) (out : Bytes) → asked .0 < 2 ^ 32 → s .0 ≡ session % 65_536 → standing asked (serialIn given) ≡ Unordered →
+    inv-unordered : (s : Session) (asked : Serial) (out : Bytes) → asked .0 < 2 ^ 32 → s .0 ≡ session % 65_536 → standing asked (serialIn start given) ≡ Unordered →
         refusedAs (replyOf w (query s asked out)) ≡ refusal 6 0 0
     inv-unordered s asked out l e u =
         let f = inv-frame given i in
-        inv-six s asked out .1 (e, rule-unordered keep given asked (f .least) (f .most) l u)
+        inv-six s asked out .1 (e, rule-unordered keep start given asked (f .least) (f .most) (f .bound) l u)
 
-    inv-notice : replyOf w notify ≡ noticed (record { session = sessionOf session; serial = serialIn given })
+    inv-notice : replyOf w notify ≡ noticed (record { session = sessionOf session; serial = serialIn start given })
     unfolding notifyOf
     inv-notice = rw (← inv-frame given i .of-session, ← inv-serial given i)
 
     inv-names : (s : Session) (asked : Serial) (out : Bytes) (c : Counts) → queriedIn w s asked (length out) .answer ≡ answers.Served c →
-        (queriedIn w s asked (length out) .session ≡ sessionOf session) × (queriedIn w s asked (length out) .serial ≡ serialIn given) × (c ≡ countsOf (writtenIn w s asked out c))
+        (queriedIn w s asked (length out) .session ≡ sessionOf session) × (queriedIn w s asked (length out) .serial ≡ serialIn start given) × (c ≡ countsOf (writtenIn w s asked out c))
     inv-names s asked out c e =
         let q : queriedIn w s asked (length out) ≡ servedWith (w .history) (answerOf (w .history) asked (w .deltas)) = queries.answer-served (w .history) s asked (w .snapshots) (w .deltas) out c e in (
           ap (λ (a : Queried). a .session) q ∙ same-name,
@@ -345,52 +347,52 @@ module _ (session keep : ℕ) (w : World) where
           queries.counts-served (w .history) s asked (w .snapshots) (w .deltas) out c e ∙ ap countsOf (sym (queries.out-served (w .history) s asked (w .snapshots) (w .deltas) out c e)),
         )
 
-    inv-whole : replyOf w full ≡ fully (record { session = sessionOf session; serial = serialIn given; answer = Held (length (current w)) })
+    inv-whole : replyOf w full ≡ fully (record { session = sessionOf session; serial = serialIn start given; answer = Held (length (current w)) })
     unfolding fullOf
     inv-whole = rw (formed, ← inv-frame given i .of-session, ← inv-serial given i, inv-length given i)
 
     inv-leads : (s : Session) (asked : Serial) (out : Bytes) (c : Counts) → asked .0 < 2 ^ 32 → ¬ (given ≡ []) → queriedIn w s asked (length out) .answer ≡ answers.Served c →
-        Leads given (current w) asked (writtenIn w s asked out c)
+        Leads start given (current w) asked (writtenIn w s asked out c)
     inv-leads s asked out c l n e =
         rw (queries.out-served (w .history) s asked (w .snapshots) (w .deltas) out c e)
         (go given i n (queries.found-served (w .history) s asked (w .snapshots) (w .deltas) out c e))
       where
-        go : (given : List Bytes) → Inv session keep w given → ¬ (given ≡ []) → isServed (w .history .n) asked (distanceOf (w .history .newest) asked) ≡ true →
-            Leads given (current w) asked (answerOf (w .history) asked (w .deltas))
+        go : (given : List Bytes) → Inv session keep start w given → ¬ (given ≡ []) → isServed (w .history .start) (w .history .n) asked (distanceOf (w .history .newest) asked) ≡ true →
+            Leads start given (current w) asked (answerOf (w .history) asked (w .deltas))
         go [] i n q = absurd (n refl)
-        go (S ∷ Ts) i n q = answer-leads i asked q l
+        go (S ∷ Ts) i n q = answer-leads i asked l q
 
-  inv-mark : (given : List Bytes) → Inv session keep w given → replyOf w ready ≡ isReady true ↔ ¬ (given ≡ [])
+  inv-mark : (given : List Bytes) → Inv session keep start w given → replyOf w ready ≡ isReady true ↔ ¬ (given ≡ [])
   unfolding readyOf
   inv-mark [] i = (λ e. let p = i .active in absurd (let z : _≡_ {A = ℕ} 0 1 = cc in omega arith), λ n. absurd (n refl))
   inv-mark (S ∷ Ts) i = (λ e n. let z : _≡_ {A = ℕ} 0 1 = cc in omega arith, λ n. rw (i .active))
 
-  inv-current : (given : List Bytes) → Inv session keep w given → (S : Bytes) (Ts : List Bytes) → given ≡ S ∷ Ts → current w ≡ newest S Ts
-  inv-current given i S Ts e = let j : Holds session keep w S Ts = rw e at i in j .current
+  inv-current : (given : List Bytes) → Inv session keep start w given → (S : Bytes) (Ts : List Bytes) → given ≡ S ∷ Ts → current w ≡ newest S Ts
+  inv-current given i S Ts e = let j : Holds session keep start w S Ts = rw e at i in j .current
 
 -- demand 3, second part: over every run of calls from a fresh history
 pub promise : EveryRun
-promise session keep snapshots deltas done calls octets =
-    go (runOf (startOf session keep snapshots deltas) calls)
-    (run-inv session keep (startOf session keep snapshots deltas) calls octets (start-inv session keep snapshots deltas done))
+promise session keep start snapshots deltas bound done calls octets =
+    go (runOf (startOf session keep start snapshots deltas) calls)
+    (run-inv session keep start (startOf session keep start snapshots deltas) calls octets (start-inv session keep start snapshots deltas bound done))
   where
-    go : (r : Run) → Inv session keep (r .world) (r .given) → Promise session keep r
+    go : (r : Run) → Inv session keep start (r .world) (r .given) → Promise session keep start r
     go r i = record {
-      formed = formed session keep (r .world) (r .given) i;
-      no-seven = formed-seven (r .world) (formed session keep (r .world) (r .given) i);
+      formed = formed session keep start (r .world) (r .given) i;
+      no-seven = formed-seven (r .world) (formed session keep start (r .world) (r .given) i);
       stays = refused-stays (r .world);
-      serial = inv-serial session keep (r .world) (r .given) i;
-      newest-current = inv-current session keep (r .world) (r .given) i;
-      updates = inv-updates session keep (r .world) (r .given) i;
-      five = inv-five session keep (r .world) (r .given) i;
-      six = inv-six session keep (r .world) (r .given) i;
-      four = inv-four session keep (r .world) (r .given) i;
-      serves = inv-serves session keep (r .world) (r .given) i;
-      names = inv-names session keep (r .world) (r .given) i;
-      whole = inv-whole session keep (r .world) (r .given) i;
-      leads = inv-leads session keep (r .world) (r .given) i;
-      ordered = inv-ordered session keep (r .world) (r .given) i;
-      unordered = inv-unordered session keep (r .world) (r .given) i;
-      notice = inv-notice session keep (r .world) (r .given) i;
-      mark = inv-mark session keep (r .world) (r .given) i;
+      serial = inv-serial session keep start (r .world) (r .given) i;
+      newest-current = inv-current session keep start (r .world) (r .given) i;
+      updates = inv-updates session keep start (r .world) (r .given) i;
+      five = inv-five session keep start (r .world) (r .given) i;
+      six = inv-six session keep start (r .world) (r .given) i;
+      four = inv-four session keep start (r .world) (r .given) i;
+      serves = inv-serves session keep start (r .world) (r .given) i;
+      names = inv-names session keep start (r .world) (r .given) i;
+      whole = inv-whole session keep start (r .world) (r .given) i;
+      leads = inv-leads session keep start (r .world) (r .given) i;
+      ordered = inv-ordered session keep start (r .world) (r .given) i;
+      unordered = inv-unordered session keep start (r .world) (r .given) i;
+      notice = inv-notice session keep start (r .world) (r .given) i;
+      mark = inv-mark session keep start (r .world) (r .given) i;
     }

@@ -1,5 +1,5 @@
 -- After every run of calls a served query's answer is the shortest delta that leads the router home.
-use Prim.Native.Nat.{ℕ}
+use Prim.Native.Nat.{ℕ, _^_, _<_}
 use mathlib.Core.Path.{_≡_, refl}
 use mathlib.Core.List.{List, [], _∷_}
 use mathlib.Core.Option.{Option, none, some}
@@ -15,10 +15,9 @@ use Rattle.delta.specs.Demand.{GoodSnapshot}
 use Rattle.delta.specs.Shortest.{LeadsTo}
 use Rattle.delta.proofs.Shortest as delta
 use Rattle.past.specs.declared.create.Creation.the-variants.{Done}
-use Rattle.past.specs.Start.{startSerial}
 use Rattle.past.specs.Create.{createOf}
 use Rattle.past.specs.Update.{Step, refuse, first, unchanged, add, stepFor, updateAt, updateOf}
-use Rattle.past.specs.Run.{World, Call, update, query, full, notify, ready, givenBy, givenAfter, Run, startOf, runOf, orLast, carriedFrom, carried}
+use Rattle.past.specs.Run.{World, Call, update, query, full, notify, ready, givenBy, givenAfter, Run, startOf, runOf, orLast, carried}
 use Rattle.past.specs.Promise.{OfBytes, Leads, writtenIn, current, Promise}
 use Rattle.past.specs.Shortest.{ShortestHome, Shortest}
 use Rattle.past.proofs.Lists.{all-push}
@@ -47,10 +46,10 @@ given-good r [] o h = h
 given-good r (c ∷ calls) o h = given-good _ calls (o .1) (good-step (r .world) c (r .given) (o .0) h)
 
 -- so is the one that carried a serial
-all-carried : (P : Bytes → Type 0) (serial asked : Serial) (ss : List Bytes) (base : Bytes) → All P ss → carriedFrom serial asked ss ≡ some base → P base
+all-carried : (P : Bytes → Type 0) (serial asked : Serial) (ss : List Bytes) (base : Bytes) → All P ss → carried serial asked ss ≡ some base → P base
 all-carried P serial asked [] base h e = none≢some refl e
 all-carried P serial asked (s ∷ ss) base h e =
-    go (carriedFrom (nextOf serial) asked ss) (λ x. all-carried P (nextOf serial) asked ss x (h .1)) e
+    go (carried (nextOf serial) asked ss) (λ x. all-carried P (nextOf serial) asked ss x (h .1)) e
   where
     here : (t : Bool) → cond {A = Option Bytes} t (some s) none ≡ some base → P base
     here true e = let q : s ≡ base = cc in rw (← q) (h .0)
@@ -61,7 +60,7 @@ all-carried P serial asked (s ∷ ss) base h e =
     go (some x) i e = i base e
 
 -- and the current one
-module _ (session keep : ℕ) (r : Run) (p : Promise session keep r) (goods : All GoodSnapshot (r .given)) where
+module _ (session keep : ℕ) (start : Serial) (r : Run) (p : Promise session keep start r) (goods : All GoodSnapshot (r .given)) where
   good-current : ¬ (r .given ≡ []) → GoodSnapshot (current (r .world))
   good-current n = go (r .given) refl goods
     where
@@ -69,10 +68,10 @@ module _ (session keep : ℕ) (r : Run) (p : Promise session keep r) (goods : Al
       go [] e h = absurd (n e)
       go (S ∷ Ts) e h = rw (p .newest-current S Ts e) (all-newest GoodSnapshot S Ts (h .0) (h .1))
 
-  home : (asked : Serial) (answer : Bytes) → ¬ (r .given ≡ []) → Leads (r .given) (current (r .world)) asked answer →
-      ShortestHome (r .given) (current (r .world)) asked answer
+  home : (asked : Serial) (answer : Bytes) → ¬ (r .given ≡ []) → Leads start (r .given) (current (r .world)) asked answer →
+      ShortestHome start (r .given) (current (r .world)) asked answer
   home asked answer n l =
-      let b : GoodSnapshot (l .base) = all-carried GoodSnapshot startSerial asked (r .given) (l .base) goods (l .most-recent) in
+      let b : GoodSnapshot (l .base) = all-carried GoodSnapshot start asked (r .given) (l .base) goods (l .most-recent) in
       let c : GoodSnapshot (current (r .world)) = good-current n in
       let t : LeadsTo (l .base) (current (r .world)) answer = rw (l .exact) (delta.shortest .leads (l .base) (current (r .world)) b c) in
       record {
@@ -83,12 +82,12 @@ module _ (session keep : ℕ) (r : Run) (p : Promise session keep r) (goods : Al
         balance = delta.shortest .balance (l .base) (current (r .world)) answer b t;
       }
 
-pub shortest : (session keep : ℕ) (snapshots deltas : Bytes) → createOf session keep snapshots deltas .answer ≡ Done →
-    (calls : List Call) → All OfBytes calls → Shortest (runOf (startOf session keep snapshots deltas) calls)
-shortest session keep snapshots deltas done calls octets =
-    go (runOf (startOf session keep snapshots deltas) calls)
-    (promise session keep snapshots deltas done calls octets)
-    (given-good (startOf session keep snapshots deltas) calls octets tt)
+pub shortest : (session keep : ℕ) (start : Serial) (snapshots deltas : Bytes) → start .0 < 2 ^ 32 → createOf session keep start snapshots deltas .answer ≡ Done →
+    (calls : List Call) → All OfBytes calls → Shortest start (runOf (startOf session keep start snapshots deltas) calls)
+shortest session keep start snapshots deltas bound done calls octets =
+    go (runOf (startOf session keep start snapshots deltas) calls)
+    (promise session keep start snapshots deltas bound done calls octets)
+    (given-good (startOf session keep start snapshots deltas) calls octets tt)
   where
-    go : (r : Run) → Promise session keep r → All GoodSnapshot (r .given) → Shortest r
-    go r p g = record { home = λ s asked out c l n e. home session keep r p g asked (writtenIn (r .world) s asked out c) n (p .leads s asked out c l n e) }
+    go : (r : Run) → Promise session keep start r → All GoodSnapshot (r .given) → Shortest start r
+    go r p g = record { home = λ s asked out c l n e. home session keep start r p g asked (writtenIn (r .world) s asked out c) n (p .leads s asked out c l n e) }

@@ -12,6 +12,7 @@ use lib.Seq.{drop-nil}
 use borrow.Author.Tests.{leb-true, leb-false, eqb-true, eqb-false}
 use Rattle.change.specs.History.{lastN}
 use Rattle.change.proofs.Chain.{all-newest}
+use Rattle.serial.specs.declared.Serial.{Serial}
 use Rattle.field.specs.declared.tag.Form.the-variants.{Snapshot}
 use Rattle.field.specs.declared.verdict.Verdict.the-variants.{Bad, NotAbove}
 use Rattle.field.specs.Verdict.{verdict}
@@ -90,10 +91,10 @@ module _ (w : World) (new : Bytes) where
   acceptable-admitted : Acceptable new → admitOneOf Snapshot new ≡ Yes
   acceptable-admitted a = fine-admitted Snapshot new (a .short) (a .good .fine)
 
-module _ (session keep : ℕ) (w : World) (new : Bytes) (octets : AllBytes new) where
+module _ (session keep : ℕ) (start : Serial) (w : World) (new : Bytes) (octets : AllBytes new) where
   -- ---- before the first snapshot
 
-  module _ (i : Waits session keep w) where
+  module _ (i : Waits session keep start w) where
     -- no delta would be held
     first-room : length new ≤ length (w .snapshots) → Room keep w [] new
     first-room l =
@@ -150,7 +151,7 @@ module _ (session keep : ℕ) (w : World) (new : Bytes) (octets : AllBytes new) 
 
   -- ---- after it
 
-  module _ (S : Bytes) (Ts : List Bytes) (i : Holds session keep w S Ts) where
+  module _ (S : Bytes) (Ts : List Bytes) (i : Holds session keep start w S Ts) where
     good-current : GoodSnapshot (current w)
     good-current = rw (i .current) (all-newest GoodSnapshot S Ts (i .good) (i .goods))
 
@@ -252,6 +253,6 @@ module _ (session keep : ℕ) (w : World) (new : Bytes) (octets : AllBytes new) 
       accepts = accepted;
     }
 
-pub inv-updates : (session keep : ℕ) (w : World) (given : List Bytes) → Inv session keep w given → (new : Bytes) → AllBytes new → Updates keep w given new
-inv-updates session keep w [] i new o = waits-updates session keep w new o i
-inv-updates session keep w (S ∷ Ts) i new o = holds-updates session keep w new o S Ts i
+pub inv-updates : (session keep : ℕ) (start : Serial) (w : World) (given : List Bytes) → Inv session keep start w given → (new : Bytes) → AllBytes new → Updates keep w given new
+inv-updates session keep start w [] i new o = waits-updates session keep start w new o i
+inv-updates session keep start w (S ∷ Ts) i new o = holds-updates session keep start w new o S Ts i

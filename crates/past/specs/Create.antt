@@ -2,6 +2,7 @@
 use Prim.Native.Nat.{ℕ}
 use mathlib.Core.List.{[]}
 use mathlib.Core.Bool.{false, cond}
+use Rattle.serial.specs.declared.Serial.{Serial}
 use Rattle.field.specs.declared.tag.Form.the-variants.{Snapshot, Delta}
 use Rattle.payload.specs.Content.{Bytes}
 use Rattle.delta.specs.declared.refusal.Refusal.the-variants.{BadKeep}
@@ -11,17 +12,17 @@ use Rattle.delta.specs.Admission.{andThen, limitOf}
 use Rattle.past.specs.declared.state.History.{History}
 use Rattle.past.specs.declared.create.Creation.the-variants.{Done, Refused}
 use Rattle.past.specs.declared.create.Created.{Created}
-use Rattle.past.specs.Start.{startSerial}
 use Rattle.past.specs.Store.{lengthsOf}
 use Rattle.past.specs.WellFormed.{goodKeep}
 
--- inactive, n = 0, F = 0, nothing held
-abbrev pub freshOf : ℕ → ℕ → History
-freshOf session keep = record {
+-- inactive, n = 0, F the start serial, nothing held
+abbrev pub freshOf : ℕ → ℕ → Serial → History
+freshOf session keep start = record {
   session = session;
   keep = keep;
   active = false;
-  newest = startSerial;
+  newest = start;
+  start = start;
   n = 0;
   snapshot = 0;
   deltas = lengthsOf [];
@@ -33,10 +34,10 @@ createAdmitted keep snapshots deltas =
     andThen (cond (goodKeep keep) Yes (No BadKeep)) (andThen (limitOf Snapshot snapshots 1) (limitOf Delta deltas 2))
 
 -- a fresh history, or a history of zeros
-abbrev pub createAt : Admitted → ℕ → ℕ → Created
-createAt Yes session keep = record { answer = Done; history = freshOf session keep }
-createAt (No r) session keep = record { answer = Refused r; history = freshOf 0 0 }
+abbrev pub createAt : Admitted → ℕ → ℕ → Serial → Created
+createAt Yes session keep start = record { answer = Done; history = freshOf session keep start }
+createAt (No r) session keep start = record { answer = Refused r; history = freshOf 0 0 (record { 0 = 0 }) }
 
--- session, keep, the two stores (which stay as they were)
-unfoldable pub createOf : ℕ → ℕ → Bytes → Bytes → Created
-createOf session keep snapshots deltas = createAt (createAdmitted keep snapshots deltas) session keep
+-- session, keep, start serial, the two stores (which stay as they were)
+unfoldable pub createOf : ℕ → ℕ → Serial → Bytes → Bytes → Created
+createOf session keep start snapshots deltas = createAt (createAdmitted keep snapshots deltas) session keep start

@@ -1,4 +1,3 @@
-pub mod Start
 pub mod Store
 pub mod WellFormed
 pub mod Create
@@ -7,5 +6,6 @@ pub mod Query
 pub mod Full
 pub mod Run
 pub mod Promise
+pub mod Start
 pub mod Marked
 pub mod Shortest

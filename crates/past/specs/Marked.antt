@@ -68,6 +68,7 @@ holding newest s ds = record {
   keep = 10;
   active = true;
   newest = serial newest;
+  start = serial 0;
   n = length ds;
   snapshot = length s;
   deltas = lengthsOf ds;

@@ -35,7 +35,6 @@ use Rattle.past.specs.declared.update.Update.the-variants.{First, Unchan
 use Rattle.past.specs.declared.query.Answer.the-variants.{Served}
 use Rattle.past.specs.declared.query.Queried.{Queried}
 use Rattle.past.specs.declared.full.FullAnswer.the-variants.{Held}
-use Rattle.past.specs.Start.{startSerial}
 use Rattle.past.specs.Store.{total, heldSnapshot}
 use Rattle.past.specs.WellFormed.{wellFormed}
 use Rattle.past.specs.Create.{freshOf, createOf}
@@ -54,9 +53,9 @@ OfBytes ready = Unit {0}
 abbrev pub changesIn : List Bytes → ℕ
 changesIn given = length given - 1
 
--- the count of changes modulo 2^32, from the serial of a fresh history on
-abbrev pub serialIn : List Bytes → Serial
-serialIn given = record { 0 = (startSerial .0 + changesIn given) % 2 ^ 32 }
+-- the start serial plus the count of changes, modulo 2^32
+abbrev pub serialIn : Serial → List Bytes → Serial
+serialIn start given = record { 0 = (start .0 + changesIn given) % 2 ^ 32 }
 
 -- the current snapshot
 abbrev pub current : World → Bytes
@@ -99,26 +98,26 @@ pub record Updates (keep : ℕ) (w : World) (given : List Bytes) (new : Bytes) :
 -- ---- queries
 
 -- the serials that are served, where n deltas are held and the serial s is d steps before the newest
-pub data Rule (n s d : ℕ) : Type 0 where
-  none-held : n ≡ 0 → s ≡ startSerial .0 → Rule n s d
-  some-held : 1 ≤ n → d ≤ n → Rule n s d
+pub data Rule (start n s d : ℕ) : Type 0 where
+  none-held : n ≡ 0 → s ≡ start → Rule start n s d
+  some-held : 1 ≤ n → d ≤ n → Rule start n s d
 
 -- by the counts of a run
-abbrev pub InRule : ℕ → List Bytes → Serial → Type 0
-InRule keep given asked = Rule (min keep (changesIn given)) (asked .0) (distanceOf (serialIn given) asked)
+abbrev pub InRule : ℕ → Serial → List Bytes → Serial → Type 0
+InRule keep start given asked = Rule (start .0) (min keep (changesIn given)) (asked .0) (distanceOf (serialIn start given) asked)
 
 -- what is due to a serial: the difference from the snapshot that most recently carried it; while there is none, nothing
 abbrev pub differenceFrom : Option Bytes → Bytes → Bytes
 differenceFrom none now = []
 differenceFrom (some base) now = differenceOf base now
 
-abbrev pub due : World → List Bytes → Serial → Bytes
-due w given asked = differenceFrom (carried asked given) (current w)
+abbrev pub due : World → Serial → List Bytes → Serial → Bytes
+due w start given asked = differenceFrom (carried start asked given) (current w)
 
 -- an answer that can be applied to the snapshot that most recently carried the serial asked for, and yields the current one
-pub record Leads (given : List Bytes) (now : Bytes) (asked : Serial) (answer : Bytes) : Type 0 where
+pub record Leads (start : Serial) (given : List Bytes) (now : Bytes) (asked : Serial) (answer : Bytes) : Type 0 where
   pub base : Bytes
-  pub most-recent : carried asked given ≡ some base
+  pub most-recent : carried start asked given ≡ some base
   pub applies : Applies bytes bytes (items base) (changes answer)
   pub fits : fitOf base answer ≡ All
   pub yields : appliedOf base answer ≡ now
@@ -139,26 +138,26 @@ abbrev pub refusedCreation : Creation → Option Values
 refusedCreation creation.Done = none
 refusedCreation (creation.Refused r) = numbered (some r)
 
-pub record Creates (session keep : ℕ) (snapshots deltas : Bytes) : Type 0 where
+pub record Creates (session keep : ℕ) (start : Serial) (snapshots deltas : Bytes) : Type 0 where
   -- 8 exactly for a keep that is not 1 to 64, else 10 exactly for a store over its limit, the first one first
-  pub eight : refusedCreation (createOf session keep snapshots deltas .answer) ≡ refusal 8 0 0 ↔ ¬ ((1 ≤ keep) × (keep ≤ 64))
-  pub ten-first : refusedCreation (createOf session keep snapshots deltas .answer) ≡ refusal 10 1 0
+  pub eight : refusedCreation (createOf session keep start snapshots deltas .answer) ≡ refusal 8 0 0 ↔ ¬ ((1 ≤ keep) × (keep ≤ 64))
+  pub ten-first : refusedCreation (createOf session keep start snapshots deltas .answer) ≡ refusal 10 1 0
       ↔ (1 ≤ keep) × (keep ≤ 64) × (limit Snapshot < length snapshots)
-  pub ten-second : refusedCreation (createOf session keep snapshots deltas .answer) ≡ refusal 10 2 0
+  pub ten-second : refusedCreation (createOf session keep start snapshots deltas .answer) ≡ refusal 10 2 0
       ↔ (1 ≤ keep) × (keep ≤ 64) × (length snapshots ≤ limit Snapshot) × (limit Delta < length deltas)
   -- else a fresh history
   pub done : (1 ≤ keep) → (keep ≤ 64) → (length snapshots ≤ limit Snapshot) → (length deltas ≤ limit Delta) →
-      createOf session keep snapshots deltas ≡ record { answer = creation.Done; history = freshOf session keep }
+      createOf session keep start snapshots deltas ≡ record { answer = creation.Done; history = freshOf session keep start }
 
-pub record Promise (session keep : ℕ) (r : Run) : Type 0 where
+pub record Promise (session keep : ℕ) (start : Serial) (r : Run) : Type 0 where
   -- the history stays well formed with its stores, so that refusal 7 never comes
   pub formed : wellFormed (r .world .history) (r .world .snapshots) (r .world .deltas) ≡ true
   pub no-seven : (c : Call) → ¬ (refusedAs (replyOf (r .world) c) ≡ refusal 7 0 0)
   -- a refused call leaves the history, both stores and the output lent to it as they were
   pub stays : (c : Call) (x : Values) → refusedAs (replyOf (r .world) c) ≡ some x →
       (stepOf (r .world) c ≡ r .world) × (leftIn (replyOf (r .world) c) ≡ lentTo c)
-  -- F is the count of changes modulo 2^32, and the newest snapshot is the current one
-  pub serial : r .world .history .newest ≡ serialIn (r .given)
+  -- F is the start serial plus the count of changes, modulo 2^32, and the newest snapshot is the current one
+  pub serial : r .world .history .newest ≡ serialIn start (r .given)
   pub newest-current : (S : Bytes) (Ts : List Bytes) → r .given ≡ S ∷ Ts → current (r .world) ≡ newest S Ts
   -- each update is accepted or refused as document 01 says
   pub updates : (new : Bytes) → AllBytes new → Updates keep (r .world) (r .given) new
@@ -167,37 +166,37 @@ pub record Promise (session keep : ℕ) (r : Run) : Type 0 where
       refusedAs (replyOf (r .world) (query s asked out)) ≡ refusal 5 0 0 ↔ ¬ (s .0 ≡ session % 65_536)
   -- else with 6 exactly for a serial that is not served by the rule
   pub six : (s : Session) (asked : Serial) (out : Bytes) →
-      refusedAs (replyOf (r .world) (query s asked out)) ≡ refusal 6 0 0 ↔ (s .0 ≡ session % 65_536) × ¬ InRule keep (r .given) asked
+      refusedAs (replyOf (r .world) (query s asked out)) ≡ refusal 6 0 0 ↔ (s .0 ≡ session % 65_536) × ¬ InRule keep start (r .given) asked
   -- else with 4 exactly if what is due is longer than the output
   pub four : (s : Session) (asked : Serial) (out : Bytes) → asked .0 < 2 ^ 32 →
       refusedAs (replyOf (r .world) (query s asked out)) ≡ refusal 4 0 0
-      ↔ (s .0 ≡ session % 65_536) × InRule keep (r .given) asked × (length out < length (due (r .world) (r .given) asked))
+      ↔ (s .0 ≡ session % 65_536) × InRule keep start (r .given) asked × (length out < length (due (r .world) start (r .given) asked))
   -- else it is served: the 16-bit session, F, the length and counts of what is due, and its bytes, then the output as it was
-  pub serves : (s : Session) (asked : Serial) (out : Bytes) → asked .0 < 2 ^ 32 → s .0 ≡ session % 65_536 → InRule keep (r .given) asked →
-      length (due (r .world) (r .given) asked) ≤ length out →
+  pub serves : (s : Session) (asked : Serial) (out : Bytes) → asked .0 < 2 ^ 32 → s .0 ≡ session % 65_536 → InRule keep start (r .given) asked →
+      length (due (r .world) start (r .given) asked) ≤ length out →
       replyOf (r .world) (query s asked out)
-      ≡ queried (record { session = sessionOf session; serial = serialIn (r .given); answer = Served (countsOf (due (r .world) (r .given) asked)) })
-      (holding (due (r .world) (r .given) asked) out)
+      ≡ queried (record { session = sessionOf session; serial = serialIn start (r .given); answer = Served (countsOf (due (r .world) start (r .given) asked)) })
+      (holding (due (r .world) start (r .given) asked) out)
   -- a served query's answer names the 16-bit session and F, and the length and counts of what it has written
   pub names : (s : Session) (asked : Serial) (out : Bytes) (c : Counts) → queriedIn (r .world) s asked (length out) .answer ≡ Served c →
-      (queriedIn (r .world) s asked (length out) .session ≡ sessionOf session) × (queriedIn (r .world) s asked (length out) .serial ≡ serialIn (r .given))
+      (queriedIn (r .world) s asked (length out) .session ≡ sessionOf session) × (queriedIn (r .world) s asked (length out) .serial ≡ serialIn start (r .given))
       × (c ≡ countsOf (writtenIn (r .world) s asked out c))
   -- once a first snapshot is accepted, what a served query has written leads to the current snapshot
   pub leads : (s : Session) (asked : Serial) (out : Bytes) (c : Counts) → asked .0 < 2 ^ 32 → ¬ (r .given ≡ []) →
       queriedIn (r .world) s asked (length out) .answer ≡ Served c →
-      Leads (r .given) (current (r .world)) asked (writtenIn (r .world) s asked out c)
+      Leads start (r .given) (current (r .world)) asked (writtenIn (r .world) s asked out c)
   -- by RFC 1982 a serial that is served is equal to the newest one or before it
   pub ordered : (s : Session) (asked : Serial) (out : Bytes) (c : Counts) → asked .0 < 2 ^ 32 → queriedIn (r .world) s asked (length out) .answer ≡ Served c →
-      (standing asked (serialIn (r .given)) ≡ Equal) ⊎ (standing asked (serialIn (r .given)) ≡ Before)
+      (standing asked (serialIn start (r .given)) ≡ Equal) ⊎ (standing asked (serialIn start (r .given)) ≡ Before)
   -- so one that is unordered with the newest is refused with 6
   pub unordered : (s : Session) (asked : Serial) (out : Bytes) → asked .0 < 2 ^ 32 → s .0 ≡ session % 65_536 →
-      standing asked (serialIn (r .given)) ≡ Unordered → refusedAs (replyOf (r .world) (query s asked out)) ≡ refusal 6 0 0
+      standing asked (serialIn start (r .given)) ≡ Unordered → refusedAs (replyOf (r .world) (query s asked out)) ≡ refusal 6 0 0
   -- the full answer names the 16-bit session and F too, with the current snapshot; so does the notice; the mark says whether one was accepted
-  pub whole : replyOf (r .world) full ≡ fully (record { session = sessionOf session; serial = serialIn (r .given); answer = Held (length (current (r .world))) })
-  pub notice : replyOf (r .world) notify ≡ noticed (record { session = sessionOf session; serial = serialIn (r .given) })
+  pub whole : replyOf (r .world) full ≡ fully (record { session = sessionOf session; serial = serialIn start (r .given); answer = Held (length (current (r .world))) })
+  pub notice : replyOf (r .world) notify ≡ noticed (record { session = sessionOf session; serial = serialIn start (r .given) })
   pub mark : replyOf (r .world) ready ≡ isReady true ↔ ¬ (r .given ≡ [])
 
 -- of every run of calls from a creation that is done
 abbrev pub EveryRun : Type 0
-EveryRun = (session keep : ℕ) (snapshots deltas : Bytes) → createOf session keep snapshots deltas .answer ≡ creation.Done →
-    (calls : List Call) → order.All OfBytes calls → Promise session keep (runOf (startOf session keep snapshots deltas) calls)
+EveryRun = (session keep : ℕ) (start : Serial) (snapshots deltas : Bytes) → start .0 < 2 ^ 32 → createOf session keep start snapshots deltas .answer ≡ creation.Done →
+    (calls : List Call) → order.All OfBytes calls → Promise session keep start (runOf (startOf session keep start snapshots deltas) calls)

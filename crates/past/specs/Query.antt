@@ -22,14 +22,13 @@ use Rattle.delta.specs.Answer.{countsOf, outAfter}
 use Rattle.past.specs.declared.state.History.{History}
 use Rattle.past.specs.declared.query.Answer.the-variants.{Refused, Served}
 use Rattle.past.specs.declared.query.Queried.{Queried}
-use Rattle.past.specs.Start.{startSerial}
 use Rattle.past.specs.Store.{heldDeltas}
 use Rattle.past.specs.WellFormed.{wellFormed}
 
--- with n deltas, is a serial served that is d steps before the newest: with n = 0 only that of a fresh history is,
+-- with n deltas, is a serial served that is d steps before the newest: with n = 0 only the start serial is,
 -- with n above 0 d from 0 to n
-abbrev pub isServed : ℕ → Serial → ℕ → Bool
-isServed n asked d = cond (eqb n 0) (eqb (asked .0) (startSerial .0)) (leb d n)
+abbrev pub isServed : Serial → ℕ → Serial → ℕ → Bool
+isServed start n asked d = cond (eqb n 0) (eqb (asked .0) (start .0)) (leb d n)
 
 -- the session must equal the history's modulo 65,536
 abbrev pub isSession : History → Session → Bool
@@ -44,7 +43,7 @@ passes false r = No r
 abbrev pub queryAdmitted : History → Session → Serial → Bytes → Bytes → Admitted
 queryAdmitted h session asked snapshots deltas =
     andThen (passes (wellFormed h snapshots deltas) IllFormed)
-    (andThen (passes (isSession h session) OtherSession) (passes (isServed (h .n) asked (distanceOf (h .newest) asked)) NotServed))
+    (andThen (passes (isSession h session) OtherSession) (passes (isServed (h .start) (h .n) asked (distanceOf (h .newest) asked)) NotServed))
 
 -- the last d deltas merged, earliest first; of none, the empty delta
 unfoldable pub mergedLast : ℕ → List Bytes → Bytes

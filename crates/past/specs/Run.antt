@@ -21,7 +21,6 @@ use Rattle.past.specs.declared.full.Full.{Full}
 use Rattle.past.specs.declared.full.FullAnswer.{FullAnswer}
 use Rattle.past.specs.declared.full.FullAnswer.the-variants as fulls
 use Rattle.past.specs.declared.notify.Notice.{Notice}
-use Rattle.past.specs.Start.{startSerial}
 use Rattle.past.specs.Create.{createOf}
 use Rattle.past.specs.Update.{updateOf, updateSnapshots, updateDeltas}
 use Rattle.past.specs.Query.{queryOf, queryOut}
@@ -142,9 +141,9 @@ abbrev pub onward : Run → Call → Run
 onward r c = record { world = stepOf (r .world) c; given = givenAfter (r .world) c (r .given) }
 
 -- a fresh history, lent these stores
-abbrev pub startOf : ℕ → ℕ → Bytes → Bytes → Run
-startOf session keep snapshots deltas = record {
-  world = record { history = createOf session keep snapshots deltas .history; snapshots = snapshots; deltas = deltas };
+abbrev pub startOf : ℕ → ℕ → Serial → Bytes → Bytes → Run
+startOf session keep start snapshots deltas = record {
+  world = record { history = createOf session keep start snapshots deltas .history; snapshots = snapshots; deltas = deltas };
   given = [];
 }
 
@@ -157,12 +156,9 @@ abbrev pub orLast : Option Bytes → Option Bytes → Option Bytes
 orLast none o = o
 orLast (some s) o = some s
 
--- of snapshots of which the first carried `serial` and each later one the serial after: the last that carried the one asked for
-abbrev pub carriedFrom : Serial → Serial → List Bytes → Option Bytes
-carriedFrom serial asked [] = none
-carriedFrom serial asked (s ∷ ss) =
-    orLast (carriedFrom (nextOf serial) asked ss) (cond (eqb (serial .0) (asked .0)) (some s) none)
-
--- the snapshot that most recently carried a serial, of those accepted so far: the first carried that of a fresh history
-abbrev pub carried : Serial → List Bytes → Option Bytes
-carried asked given = carriedFrom startSerial asked given
+-- the snapshot that most recently carried the serial asked for, of those accepted so far: the first carried the start serial,
+-- and each later one the serial after
+abbrev pub carried : Serial → Serial → List Bytes → Option Bytes
+carried start asked [] = none
+carried start asked (s ∷ ss) =
+    orLast (carried (nextOf start) asked ss) (cond (eqb (start .0) (asked .0)) (some s) none)

@@ -14,10 +14,10 @@ use Rattle.past.specs.declared.query.Answer.the-variants.{Served}
 use Rattle.past.specs.Run.{Run, carried}
 use Rattle.past.specs.Promise.{queriedIn, writtenIn, current}
 
-pub record ShortestHome (given : List Bytes) (now : Bytes) (asked : Serial) (answer : Bytes) : Type 0 where
+pub record ShortestHome (start : Serial) (given : List Bytes) (now : Bytes) (asked : Serial) (answer : Bytes) : Type 0 where
   -- the snapshot that most recently carried the serial asked for
   pub base : Bytes
-  pub most-recent : carried asked given ≡ some base
+  pub most-recent : carried start asked given ≡ some base
   -- the answer is a good delta that can be applied to it and yields the current snapshot, and no such delta has fewer items or bytes
   pub leads : LeadsTo base now answer
   pub shortest : (D : Bytes) → AllBytes D → LeadsTo base now D → NoLonger answer D
@@ -25,7 +25,7 @@ pub record ShortestHome (given : List Bytes) (now : Bytes) (asked : Serial) (ans
   pub balance : Balance base answer now
 
 -- once a first snapshot is accepted, each served query leaves such an answer in its output
-pub record Shortest (r : Run) : Type 0 where
+pub record Shortest (start : Serial) (r : Run) : Type 0 where
   pub home : (s : Session) (asked : Serial) (out : Bytes) (c : Counts) → asked .0 < 2 ^ 32 → ¬ (r .given ≡ []) →
       queriedIn (r .world) s asked (length out) .answer ≡ Served c →
-      ShortestHome (r .given) (current (r .world)) asked (writtenIn (r .world) s asked out c)
+      ShortestHome start (r .given) (current (r .world)) asked (writtenIn (r .world) s asked out c)

@@ -12,7 +12,6 @@ use Rattle.field.specs.Verdict.{verdict}
 use Rattle.payload.specs.Content.{Bytes}
 use Rattle.payload.specs.Limit.{limit}
 use Rattle.past.specs.declared.state.History.{History}
-use Rattle.past.specs.Start.{startSerial}
 use Rattle.past.specs.Store.{total, heldSnapshot, heldLengths, heldDeltas}
 
 abbrev pub isFine : Verdict → Bool
@@ -37,9 +36,9 @@ goodKeep keep = leb 1 keep && leb keep 64
 abbrev pub inRange : History → Bool
 inRange h = goodKeep (h .keep) && leb (h .n) (h .keep)
 
--- inactive or n = 0: F is that of a fresh history
+-- inactive or n = 0: F is the start serial
 abbrev pub goodSerial : History → Bool
-goodSerial h = cond (h .active) (cond (eqb (h .n) 0) (eqb (h .newest .0) (startSerial .0)) true) (eqb (h .newest .0) (startSerial .0))
+goodSerial h = cond (h .active) (cond (eqb (h .n) 0) (eqb (h .newest .0) (h .start .0)) true) (eqb (h .newest .0) (h .start .0))
 
 -- inactive: n is 0 and the held snapshot is empty
 abbrev pub goodStart : History → Bool

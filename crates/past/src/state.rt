@@ -6,6 +6,8 @@ pub struct History {
     pub keep: u32,
     pub active: bool,
     pub newest: Serial,
+    // The serial that the history started with.
+    pub start: Serial,
     // How many deltas are held.
     pub n: u32,
     // The length of the held snapshot.

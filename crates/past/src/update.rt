@@ -4,7 +4,7 @@ use delta::refusal::Refusal;
 use item::sink::Counts;
 
 pub enum Update {
-    // The first snapshot is current; the serial stays 0.
+    // The first snapshot is current; the serial stays the one that the history started with.
     First,
     Unchanged,
     // The delta that was added.

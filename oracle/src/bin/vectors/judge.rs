@@ -33,8 +33,6 @@ pub struct Judge {
 /// The Rust's history, and the model's as the Rust has followed it.
 struct Beside {
     rust: rust::History,
-    start: u32,
-    accepted: Vec<Vec<u8>>,
     state: State,
     stores: [Vec<u8>; 2],
 }
@@ -94,32 +92,19 @@ impl Judge {
         self.beside = None;
         if outcome.answer.kind == 1 {
             let [snapshots, deltas, _] = call.bytes.clone();
-            let rust = rust::History::new(outcome.state.keep, 0);
-            let (accepted, state) = (vec![], outcome.state);
-            self.beside = Some(Beside { rust, start: 0, accepted, state, stores: [snapshots, deltas] });
+            let state = outcome.state;
+            let rust = rust::History::new(state.keep, state.start);
+            self.beside = Some(Beside { rust, state, stores: [snapshots, deltas] });
         }
     }
 
-    /// Goes on with the Rust's history if the call's is the one that it has followed, or that one with its
-    /// serial moved. Then the Rust is given the same snapshots from another start.
+    /// Goes on with the Rust's history if the call's is the one that it has followed.
     fn follow(&mut self, call: &Call) {
-        let Some(beside) = self.beside.take() else { return };
         let stores = call.stores().map(|(s, d)| [&call.bytes[s], &call.bytes[d]]);
-        let moved = call.state.newest.wrapping_sub(beside.state.newest);
-        let same = State { newest: beside.state.newest, ..call.state } == beside.state;
-        if call.entry == Entry::Create || !same || stores.is_some_and(|s| s != beside.stores.each_ref()) {
-            return;
-        }
-        if moved == 0 {
-            self.beside = Some(beside);
-        } else if call.state.n > 0 {
-            let Beside { rust, start, accepted, stores, .. } = beside;
-            drop(rust); // one lives at a time
-            let start = start.wrapping_add(moved);
-            let rust = rust::History::new(call.state.keep, start);
-            accepted.iter().for_each(|s| assert!(rust.update(s)));
-            self.beside = Some(Beside { rust, start, accepted, state: call.state, stores });
-        }
+        self.beside.take_if(|beside| {
+            let same = call.state == beside.state && stores.is_none_or(|s| s == beside.stores.each_ref());
+            call.entry == Entry::Create || !same
+        });
     }
 
     fn update(&mut self, call: &Call, outcome: &Outcome) {
@@ -129,9 +114,6 @@ impl Judge {
         }
         let [new, snapshots, deltas] = outcome.bytes.clone();
         let same = beside.rust.update(&new) == (outcome.answer.kind != 2);
-        if outcome.answer.kind != 2 {
-            beside.accepted.push(new);
-        }
         (beside.state, beside.stores) = (outcome.state, [snapshots, deltas]);
         self.same(same, call);
     }

@@ -174,14 +174,11 @@ pub fn runs() -> String {
     let mut rng = Rng::new(SEED, 1);
     list.part("keep", "histories filled, and two updates more");
     KEEPS.iter().for_each(|keep| list.keep(*keep));
-    list.part("moved", "serials that cross the wrap, or the middle");
-    for start in [0, 0x7FFF_FFFB, 0x7FFF_FFFD, 0x7FFF_FFFF, 0xFFFF_FFFB, 0xFFFF_FFFD, 0xFFFF_FFFF] {
-        list.moved(start);
+    list.part("started", "serials that cross the wrap, or the middle");
+    for start in [0, 0x7FFF_FFFB, 0x7FFF_FFFD, 0x7FFF_FFFF, 0xFFFF_FFFA, 0xFFFF_FFFB, 0xFFFF_FFFD, 0xFFFF_FFFF] {
+        list.started(start);
     }
-    list.part(
-        "history",
-        "updates with queries after each; serials from 0, or moved to another start once one delta is held",
-    );
+    list.part("history", "updates with queries after each; serials from 0 or from another start");
     for i in 0..44 {
         let universe = Universe::few(&mut rng, 1 + i % 4);
         list.history(&mut rng, &universe);
@@ -204,10 +201,11 @@ fn words<const N: usize>(numbers: [u64; N]) -> Vec<String> {
 }
 
 impl List {
-    fn create(&mut self, session: u64, keep: u32, room: [usize; 2]) -> World {
-        self.line("create", &words([session, keep.into(), room[0] as u64, room[1] as u64]));
+    fn create(&mut self, session: u64, keep: u32, start: u32, room: [usize; 2]) -> World {
+        let numbers = [session, keep.into(), start.into(), room[0] as u64, room[1] as u64];
+        self.line("create", &words(numbers));
         let [snapshots, deltas] = room.map(|n| vec![0; n]);
-        let made = model::run(&Call::create(session, keep, snapshots.clone(), deltas.clone()));
+        let made = model::run(&Call::create(session, keep, start, snapshots.clone(), deltas.clone()));
         World { state: made.state, snapshots, deltas }
     }
 
@@ -218,7 +216,7 @@ impl List {
     /// One ASPA whose provider is the serial; the delta store is exactly full.
     fn keep(&mut self, keep: u32) {
         let state = State { newest: keep + 2, ..State::ZERO };
-        self.create(u64::from(keep) << 16 | 9, keep, [11, 17 * keep as usize]);
+        self.create(u64::from(keep) << 16 | 9, keep, 0, [11, 17 * keep as usize]);
         self.line("update", &[aspa(0)]);
         self.line("go", &[(keep + 2).to_string(), aspa(1)]);
         for d in [1, keep / 2, keep - 1, keep, keep + 1] {
@@ -227,19 +225,15 @@ impl List {
         self.line("full", &[]);
     }
 
-    /// The same, from one delta on with its serial moved.
-    fn moved(&mut self, start: u32) {
-        self.create(9, 5, [11, 90]);
-        self.line("update", &[aspa(0)]);
-        let mut state = State { session: 9, keep: 5, active: 1, snapshot: 11, ..State::ZERO };
-        for n in 1..=5 {
-            self.line("update", &[aspa(n)]);
-            (state.newest, state.n) = (start.wrapping_add(n), n);
-            state.deltas[n as usize - 1] = 17;
-            if n == 1 {
-                self.state(&state);
-            }
-            for d in [0, 1, 2, n - 1, n, n + 1, 0x7FFF_FFFF, 0x8000_0000, 0x8000_0001] {
+    /// The same from a start serial, with questions before and after each update; the last two drop a delta.
+    fn started(&mut self, start: u32) {
+        self.create(9, 5, start, [11, 90]);
+        let inactive = State { newest: start, ..State::ZERO };
+        [0, 1, u32::MAX, start].iter().for_each(|d| self.query(&inactive, 9, *d, 17));
+        for m in 0..=7 {
+            self.line("update", &[aspa(m)]);
+            let (state, n) = (State { newest: start.wrapping_add(m), ..State::ZERO }, m.min(5));
+            for d in [0, 1, 2, n.wrapping_sub(1), n, n + 1, 0x7FFF_FFFF, 0x8000_0000, 0x8000_0001] {
                 self.query(&state, 9, d, 17);
             }
             self.line("notify", &[]);
@@ -248,14 +242,14 @@ impl List {
 
     fn history(&mut self, rng: &mut Rng, universe: &Universe) {
         let keep = *rng.pick(&[1, 1, 2, 3, 4, 5, 64, 0, 65]);
-        let (start, moves) = (serial(rng), rng.one_in(2));
+        let start = if rng.one_in(2) { serial(rng) } else { 0 };
         let mut snapshots = vec![universe.snapshot(rng)];
         for _ in 0..3 + rng.below(5) {
             snapshots.push(universe.next(rng, snapshots.last().expect("there is one")));
         }
         let room = stores(rng, keep, &snapshots);
         let session = rng.next();
-        let mut world = self.create(session, keep, room);
+        let mut world = self.create(session, keep, start, room);
         if world.state.keep == 0 {
             return;
         }
@@ -267,14 +261,9 @@ impl List {
                 continue;
             }
             self.line("update", &[pack(&new)]);
-            let first = world.state.n == 0;
             let outcome = model::run(&world.update(new));
             let [_, snapshots, deltas] = outcome.bytes;
             world = World { state: outcome.state, snapshots, deltas };
-            if moves && first && world.state.n == 1 {
-                world.state.newest = start.wrapping_add(1);
-                self.state(&world.state);
-            }
             if rng.one_in(3) {
                 self.line("look", &words(room.map(|n| n as u64)));
             }
@@ -299,9 +288,9 @@ impl List {
     }
 
     fn state(&mut self, state: &State) {
-        let State { session, keep, active, newest, n, snapshot, deltas } = state;
+        let State { session, keep, active, newest, start, n, snapshot, deltas } = state;
         let used = deltas.iter().rposition(|l| *l != 0).map_or(0, |at| at + 1);
-        let numbers = [keep, active, newest, n, snapshot].into_iter().chain(&deltas[..used]);
+        let numbers = [keep, active, newest, start, n, snapshot].into_iter().chain(&deltas[..used]);
         let numbers = numbers.map(|n| n.to_string());
         self.line("state", &[session.to_string()].into_iter().chain(numbers).collect::<Vec<_>>());
     }
