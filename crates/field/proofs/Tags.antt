@@ -2,8 +2,10 @@
 use Prim.Native.Nat.{ℕ}
 use mathlib.Core.Path.{_≡_}
 use mathlib.Core.List.{List}
-use mathlib.Core.Bool.{Bool, false}
+use mathlib.Core.Bool.{Bool, true}
 use borrow.Author.Tests.{ne-eqb}
+use Rattle.field.specs.declared.aspa.Body.{Body}
+use Rattle.field.specs.declared.aspa.Body.the-variants.{Broken}
 use Rattle.field.specs.declared.tag.Form.{Form}
 use Rattle.field.specs.declared.tag.Form.the-variants.{Snapshot, Delta}
 use Rattle.field.specs.declared.tag.Action.{Action}
@@ -12,8 +14,8 @@ use Rattle.field.specs.declared.tag.Tag.{Tag}
 use Rattle.field.specs.declared.tag.Tag.the-variants.{Unknown, Origin, RouterKey, Aspa}
 use Rattle.field.specs.Origin.{goodOrigin}
 use Rattle.field.specs.RouterKey.{goodRouterKey}
-use Rattle.field.specs.Aspa.{goodAspa, goodUpdate}
-use Rattle.field.specs.Tag.{itemTag, changeTag, tagOf, kindOf, goodAspaBody, goodBody}
+use Rattle.field.specs.Aspa.{goodAspa, goodUpdate, sensibleAspa, sensibleUpdate, bodyOf}
+use Rattle.field.specs.Tag.{itemTag, changeTag, tagOf, kindOf, goodAspaBody, goodBody, sensibleAspaBody, sensible}
 
 module _ (tag k : ℕ) (t : Tag) where
   pub item-known : tag ≡ k → t ≡ itemTag k → t ≡ itemTag tag
@@ -45,8 +47,8 @@ module _ (form : Form) (tag : ℕ) (t : Tag) (e : t ≡ tagOf form tag) where
   unfolding kindOf
   kind-unknown d = rw (← e, d)
 
-  pub body-unknown : (b : List ℕ) → t ≡ Unknown → false ≡ goodBody form tag b
-  unfolding goodBody
+  pub body-unknown : (b : List ℕ) → t ≡ Unknown → Broken ≡ bodyOf (goodBody form tag b) (sensible form tag b)
+  unfolding goodBody bodyOf
   body-unknown b d = rw (← e, d)
 
   module _ (action : Action) where
@@ -62,30 +64,31 @@ module _ (form : Form) (tag : ℕ) (t : Tag) (e : t ≡ tagOf form tag) where
     unfolding kindOf
     kind-aspa d = rw (← e, d)
 
-    module _ (b : List ℕ) (r : Bool) where
-      pub body-origin : t ≡ Origin action → r ≡ goodOrigin b → r ≡ goodBody form tag b
-      unfolding goodBody
-      body-origin d q = rw (← e, d, q)
+    module _ (b : List ℕ) (r : Body) where
+      pub body-origin : (ok : Bool) → t ≡ Origin action → ok ≡ goodOrigin b → r ≡ bodyOf ok true → r ≡ bodyOf (goodBody form tag b) (sensible form tag b)
+      unfolding goodBody sensible
+      body-origin ok d p q = rw (← e, d, ← p) q
 
-      pub body-key : t ≡ RouterKey action → r ≡ goodRouterKey b → r ≡ goodBody form tag b
-      unfolding goodBody
-      body-key d q = rw (← e, d, q)
+      pub body-key : (ok : Bool) → t ≡ RouterKey action → ok ≡ goodRouterKey b → r ≡ bodyOf ok true → r ≡ bodyOf (goodBody form tag b) (sensible form tag b)
+      unfolding goodBody sensible
+      body-key ok d p q = rw (← e, d, ← p) q
 
-      pub body-aspa : t ≡ Aspa action → r ≡ goodAspaBody action b → r ≡ goodBody form tag b
-      unfolding goodBody
-      body-aspa d q = rw (← e, d, q)
+      pub body-aspa : t ≡ Aspa action → r ≡ bodyOf (goodAspaBody action b) (sensibleAspaBody action b)
+          → r ≡ bodyOf (goodBody form tag b) (sensible form tag b)
+      unfolding goodBody sensible
+      body-aspa d q = rw (← e, d) q
 
-module _ (action : Action) (b : List ℕ) (r : Bool) where
-  pub aspa-held : action ≡ Hold → r ≡ goodAspa b → r ≡ goodAspaBody action b
-  aspa-held d q = rw (d, q)
+module _ (action : Action) (b : List ℕ) (r : Body) where
+  pub aspa-held : action ≡ Hold → r ≡ bodyOf (goodAspa b) (sensibleAspa b) → r ≡ bodyOf (goodAspaBody action b) (sensibleAspaBody action b)
+  aspa-held d q = rw d q
 
-  pub aspa-announced : action ≡ Announce → r ≡ goodAspa b → r ≡ goodAspaBody action b
-  aspa-announced d q = rw (d, q)
+  pub aspa-announced : action ≡ Announce → r ≡ bodyOf (goodAspa b) (sensibleAspa b) → r ≡ bodyOf (goodAspaBody action b) (sensibleAspaBody action b)
+  aspa-announced d q = rw d q
 
-  pub aspa-withdrawn : action ≡ Withdraw → r ≡ goodAspa b → r ≡ goodAspaBody action b
-  aspa-withdrawn d q = rw (d, q)
+  pub aspa-withdrawn : action ≡ Withdraw → r ≡ bodyOf (goodAspa b) (sensibleAspa b) → r ≡ bodyOf (goodAspaBody action b) (sensibleAspaBody action b)
+  aspa-withdrawn d q = rw d q
 
-  pub aspa-updated : action ≡ Update → r ≡ goodUpdate b → r ≡ goodAspaBody action b
-  aspa-updated d q = rw (d, q)
+  pub aspa-updated : action ≡ Update → r ≡ bodyOf (goodUpdate b) (sensibleUpdate b) → r ≡ bodyOf (goodAspaBody action b) (sensibleAspaBody action b)
+  aspa-updated d q = rw d q
 
 pub ruleset tags = (tag-item, tag-change, kind-unknown, kind-origin, kind-key, kind-aspa, body-unknown, body-origin, body-key, body-aspa, aspa-held, aspa-announced, aspa-withdrawn, aspa-updated)

@@ -8,7 +8,7 @@ use Rattle.field.specs.declared.key.Key.{Key}
 use Rattle.field.specs.declared.tag.Form.{Form}
 use Rattle.field.specs.declared.head.Field.the-variants.{Whole}
 use Rattle.field.specs.declared.verdict.Stand.{Stand}
-use Rattle.field.specs.Tag.{kindOf, goodBody}
+use Rattle.field.specs.Tag.{kindOf, goodBody, sensible}
 use Rattle.field.specs.Places.{part, fieldAt, keyIn, keyPlace}
 use Rattle.field.specs.Verdict.{verdictF, verdict}
 
@@ -27,12 +27,13 @@ standBehind kind from to = record { at = to; before = keyPlace kind from to }
 pub record If (r : Bool) (P : Type 0) : Type 0 where
   pub holds : r ≡ true → P
 
--- at `at` stands a good field of this kind, which ends at `to`
+-- at `at` stands a good field of this kind that makes sense, and it ends at `to`
 pub record GoodField (form : Form) (kind : ℕ) (s : List ℕ) (at to : ℕ) : Type 0 where
   pub tag : ℕ
   pub reads : Whole tag (at + 3) to ≡ fieldAt s at
   pub kinds : kind ≡ kindOf form tag
   pub good : goodBody form tag (part s (at + 3) to) ≡ true
+  pub sense : sensible form tag (part s (at + 3) to) ≡ true
 
 -- so it is, if `to` is past `at`
 pub record Reaches (form : Form) (kind : ℕ) (s : List ℕ) (at to : ℕ) : Type 0 where

@@ -1,4 +1,5 @@
 // The check of a whole snapshot or delta.
+use crate::aspa::Body;
 use crate::head::Field;
 use crate::head::field_at;
 use crate::key::Key;
@@ -6,7 +7,7 @@ use crate::key::key_at;
 use crate::key::key_compare;
 use crate::number::four_at;
 use crate::tag::Form;
-use crate::tag::body_ok;
+use crate::tag::judge_body;
 use crate::tag::kind_of;
 use crate::words::next_words;
 use crate::words::words_at;
@@ -22,6 +23,8 @@ pub enum Verdict {
     Fine,
     // It is cut short, has an unknown tag, or breaks a body rule.
     Bad { at: usize },
+    // It is an ASPA without providers, or one that names its customer among them.
+    Senseless { at: usize },
     // It does not stand above the one before it.
     NotAbove { at: usize },
 }
@@ -63,7 +66,7 @@ fn pass_origins(form: Form, s: &[u8], start: usize) -> Stand
     behind(1, at - 23, at)
 }
 
-// Where the field at `at` ends, if it is a good one of this kind; else `at`.
+// Where the field at `at` ends, if it is a good one of this kind that makes sense; else `at`.
 fn good_end(form: Form, kind: u8, s: &[u8], at: usize) -> usize
     ensures { λ r. ⌜ Reaches form kind (now (s .entry)) at r ⌝ }
 {
@@ -74,10 +77,11 @@ fn good_end(form: Form, kind: u8, s: &[u8], at: usize) -> usize
             if kind_of(form, tag) != kind {
                 return at;
             }
-            if !body_ok(form, tag, &s[from..to]) {
-                return at;
+            match judge_body(form, tag, &s[from..to]) {
+                Body::Broken => at,
+                Body::Senseless => at,
+                Body::Sound => to,
             }
-            to
         }
     }
 }
@@ -148,19 +152,22 @@ pub fn check(form: Form, s: &[u8]) -> Verdict
             Field::End => return Verdict::Fine,
             Field::Cut => return Verdict::Bad { at },
             Field::Whole { tag, from, to } => {
-                if !body_ok(form, tag, &s[from..to]) {
-                    return Verdict::Bad { at };
-                }
-                let key = key_at(kind_of(form, tag), from, to);
-                match key_compare(s, before, s, key) {
-                    Ordering::Less => {
-                        let stand = pass(form, s, to, key);
-                        let last = stand.before;
-                        before = last;
-                        at = stand.at;
+                match judge_body(form, tag, &s[from..to]) {
+                    Body::Broken => return Verdict::Bad { at },
+                    Body::Senseless => return Verdict::Senseless { at },
+                    Body::Sound => {
+                        let key = key_at(kind_of(form, tag), from, to);
+                        match key_compare(s, before, s, key) {
+                            Ordering::Less => {
+                                let stand = pass(form, s, to, key);
+                                let last = stand.before;
+                                before = last;
+                                at = stand.at;
+                            }
+                            Ordering::Equal => return Verdict::NotAbove { at },
+                            Ordering::Greater => return Verdict::NotAbove { at },
+                        }
                     }
-                    Ordering::Equal => return Verdict::NotAbove { at },
-                    Ordering::Greater => return Verdict::NotAbove { at },
                 }
             }
         }
