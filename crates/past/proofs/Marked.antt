@@ -1,8 +1,8 @@
 -- The marked examples hold, by computation.
 use mathlib.Core.Path.{refl}
 use Rattle.order.specs.Walk.{walk}
-use Rattle.field.specs.Tag.{tagOf, kindOf, goodBody}
-use Rattle.field.specs.Aspa.{asns, ascendingFrom, ascending, goodProviders, goodAspa, goodUpdate}
+use Rattle.field.specs.Tag.{tagOf, kindOf, goodBody, sensible}
+use Rattle.field.specs.Aspa.{asns, ascendingFrom, ascending, goodProviders, goodAspa, goodUpdate, isIn, sensibleAsns, sensibleProviders, sensibleAspa, sensibleUpdate}
 use Rattle.field.specs.Head.{front}
 use Rattle.field.specs.Key.{keyOf}
 use Rattle.field.specs.Verdict.{judge, verdictF, verdict}
@@ -16,7 +16,7 @@ use Rattle.past.specs.Marked.{Marked}
 
 -- K1 to K11
 pub marked : Marked
-unfolding queryOf queryOut wellFormed mergedLast verdict verdictF judge front goodBody tagOf kindOf keyOf goodAspa goodUpdate goodProviders asns ascending ascendingFrom cells cellsF field run.encode entries encode walk differenceOf mergedOf constructOf mergeOf mergeOut
+unfolding queryOf queryOut wellFormed mergedLast verdict verdictF judge front goodBody tagOf kindOf keyOf goodAspa goodUpdate goodProviders asns ascending ascendingFrom sensible sensibleAspa sensibleUpdate sensibleProviders sensibleAsns isIn cells cellsF field run.encode entries encode walk differenceOf mergedOf constructOf mergeOf mergeOut
 marked = record {
   k1 = refl;
   k2 = (refl, refl);

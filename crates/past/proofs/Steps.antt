@@ -11,7 +11,7 @@ use borrow.Author.Tests.{leb-true, leb-false, le-leb, lt-leb, eqb-true, eq-eqb, 
 use Rattle.field.specs.declared.tag.Form.{Form}
 use Rattle.field.specs.declared.tag.Form.the-variants.{Snapshot}
 use Rattle.field.specs.declared.verdict.Verdict.{Verdict}
-use Rattle.field.specs.declared.verdict.Verdict.the-variants.{Fine, Bad, NotAbove}
+use Rattle.field.specs.declared.verdict.Verdict.the-variants.{Fine, Bad, Senseless, NotAbove}
 use Rattle.field.specs.Verdict.{verdict}
 use Rattle.payload.specs.Content.{Bytes}
 use Rattle.payload.specs.Limit.{limit}
@@ -38,6 +38,7 @@ admitted-fine form s = go (leb (length s) (limit form)) (verdict form s)
     go : (t : Bool) (v : Verdict) → andThen (cond t Yes (No (TooLong 1))) (refusalOf 1 v) ≡ Yes → v ≡ Fine
     go true Fine e = refl
     go true (Bad at) e = never (cc)
+    go true (Senseless at) e = never (cc)
     go true (NotAbove at) e = never (cc)
     go false v e = never (cc)
 
@@ -51,6 +52,7 @@ refusal-kind form s r = go (leb (length s) (limit form)) (verdict form s)
     go : (t : Bool) (v : Verdict) → andThen (cond t Yes (No (TooLong 1))) (refusalOf 1 v) ≡ No r → ¬ (r ≡ IllFormed) × ¬ (r ≡ StoreFull)
     go true Fine e = never (cc)
     go true (Bad at) e = (λ q. never (cc), λ q. never (cc))
+    go true (Senseless at) e = (λ q. never (cc), λ q. never (cc))
     go true (NotAbove at) e = (λ q. never (cc), λ q. never (cc))
     go false v e = (λ q. never (cc), λ q. never (cc))
 
