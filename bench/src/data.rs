@@ -61,7 +61,7 @@ impl Data {
         for i in 0..aspas {
             let usual = if matches!(shape, Shape::Aspas) { 1 } else { 1 + i % 6 };
             let count = usual + u32::from(changed(i));
-            let providers: Vec<u8> = (0..count).flat_map(|p| (i + 7 * p).to_be_bytes()).collect();
+            let providers: Vec<u8> = (0..count).flat_map(|p| (i + 1 + 7 * p).to_be_bytes()).collect();
             put(&mut out, 3, &[&i.to_be_bytes(), &providers]);
         }
         out
