@@ -1,19 +1,17 @@
 -- The bodies of router keys, ASPAs and updates: each way through a check, with what the tests on that way said.
 use Prim.Native.Nat.{ℕ, _+_, _-_, _*_, _/_, _%_, _<_, _≤_}
-use mathlib.Core.Path.{_≡_, refl, sym, ap, _∙_}
+use mathlib.Core.Path.{_≡_, refl, ap, _∙_}
 use mathlib.Core.List.{List, [], _∷_}
-use mathlib.Core.Bool.{Bool, true, false, _&&_}
+use mathlib.Core.Bool.{Bool, true, false, not, _&&_}
 use native.Mathlib.Omega.{arith}
-use borrow.Author.Tests.{le-leb, lt-leb, eq-eqb, ne-eqb}
-use lib.Dec.{leb}
+use borrow.Author.Tests.{le-leb, lt-leb, not-true, not-false}
+use lib.Dec.{leb, eqb}
 use lib.ListN.{length, take, drop, length-drop}
 use lib.Seq.{take-all}
 use Rattle.serial.specs.declared.Asn.{Asn}
-use Rattle.field.specs.declared.aspa.Body.{Body}
-use Rattle.field.specs.declared.aspa.Body.the-variants.{Broken, Senseless, Sound}
 use Rattle.field.specs.Number.{twoAt, fourAt, asnAt}
 use Rattle.field.specs.RouterKey.{goodRouterKey}
-use Rattle.field.specs.Aspa.{asns, ascending, goodProviders, goodAspa, goodUpdate, sensibleAsns, sensibleProviders, sensibleAspa, sensibleUpdate, bodyOf, bothOf}
+use Rattle.field.specs.Aspa.{asns, ascending, goodProviders, goodAspa, goodUpdate, sensibleAsns, sensibleProviders, sensibleAspa, sensibleUpdate}
 
 -- a part that goes to the end, as `&b[k..]`
 to-end : (b : List ℕ) (k : ℕ) → take (length b - k) (drop k b) ≡ drop k b
@@ -28,100 +26,55 @@ module _ (b : List ℕ) where
   unfolding goodRouterKey
   key-rest h = rw (le-leb 24 (length b) h)
 
--- ---- what a body is found to be
+  pub sized-many : 4_096 < length b / 4 → false ≡ leb (length b / 4) 4_096 && eqb (length b % 4) 0
+  sized-many k = rw (lt-leb (length b / 4) 4_096 k)
 
--- what is said of the rules by what a body is found to be
-broken≢senseless : {X : Type 0} → Broken ≡ Senseless → X
-broken≢senseless e = absurd (let z : _≡_ {A = ℕ} 0 1 = cc in omega arith)
+  pub sized-rest : length b / 4 ≤ 4_096 → eqb (length b % 4) 0 ≡ leb (length b / 4) 4_096 && eqb (length b % 4) 0
+  sized-rest k = rw (le-leb (length b / 4) 4_096 k)
 
-broken≢sound : {X : Type 0} → Broken ≡ Sound → X
-broken≢sound e = absurd (let z : _≡_ {A = ℕ} 0 1 = cc in omega arith)
+  module _ (t : Bool) (e : t ≡ leb (length b / 4) 4_096 && eqb (length b % 4) 0) where
+    pub providers-unsized : not t ≡ true → false ≡ goodProviders b
+    unfolding goodProviders
+    providers-unsized n = rw (← e, not-true t n)
 
-senseless≢sound : {X : Type 0} → Senseless ≡ Sound → X
-senseless≢sound e = absurd (let z : _≡_ {A = ℕ} 0 1 = cc in omega arith)
+    pub providers-rest : (r : Bool) → not t ≡ false → r ≡ ascending (asns b) → r ≡ goodProviders b
+    unfolding goodProviders
+    providers-rest r n q = rw (← e, not-false t n) q
 
-pub by-broken : (g s : Bool) → bodyOf g s ≡ Broken → g ≡ false
-unfolding bodyOf
-by-broken true true e = broken≢sound (sym e)
-by-broken true false e = broken≢senseless (sym e)
-by-broken false s e = refl
+  pub aspa-short : length b < 4 → false ≡ goodAspa b
+  unfolding goodAspa
+  aspa-short h = rw (lt-leb 4 (length b) h)
 
-pub by-senseless : (g s : Bool) → bodyOf g s ≡ Senseless → (g ≡ true) × (s ≡ false)
-unfolding bodyOf
-by-senseless true true e = senseless≢sound (sym e)
-by-senseless true false e = (refl, refl)
-by-senseless false s e = broken≢senseless e
+  pub aspa-rest : (r : Bool) → 4 ≤ length b → r ≡ goodProviders (take (length b - 4) (drop 4 b)) → r ≡ goodAspa b
+  unfolding goodAspa
+  aspa-rest r h q = rw (le-leb 4 (length b) h, ← to-end b 4) q
 
-pub by-sound : (g s : Bool) → bodyOf g s ≡ Sound → (g ≡ true) × (s ≡ true)
-unfolding bodyOf
-by-sound true true e = (refl, refl)
-by-sound true false e = senseless≢sound e
-by-sound false s e = broken≢sound e
+  pub update-short : length b < 6 → false ≡ goodUpdate b
+  unfolding goodUpdate
+  update-short h = rw (lt-leb 6 (length b) h)
 
-pub is-sound : {g s : Bool} → g ≡ true → s ≡ true → Sound ≡ bodyOf g s
-unfolding bodyOf
-is-sound e d = rw (e, d)
+  module _ (n : ℕ) (h : 6 ≤ length b) (e : n ≡ twoAt b 4) where
+    pub update-cut : length b - 6 < n * 4 → false ≡ goodUpdate b
+    unfolding goodUpdate
+    update-cut l = rw (le-leb 6 (length b) h, ← e, lt-leb (n * 4) (length b - 6) l)
 
--- two lists are found to be what both rules say of both
-two-lists : (g s h t : Bool) → bothOf (bodyOf g s) (bodyOf h t) ≡ bodyOf (g && h) (s && t)
-unfolding bodyOf
-two-lists true true h t = refl
-two-lists true false true true = refl
-two-lists true false true false = refl
-two-lists true false false t = refl
-two-lists false s h t = refl
+    module _ (l : n * 4 ≤ length b - 6) (r : Bool) (q : r ≡ goodProviders (take (6 + n * 4 - 6) (drop 6 b))) where
+      former : r ≡ goodProviders (take (n * 4) (drop 6 b))
+      former = let d : 6 + n * 4 - 6 ≡ n * 4 = omega arith in rw d at q
 
-module _ (t : Bool) where
-  pub kept-sound : t ≡ true → Sound ≡ bodyOf t true
-  unfolding bodyOf
-  kept-sound e = rw e
+      pub update-former : not r ≡ true → false ≡ goodUpdate b
+      unfolding goodUpdate
+      update-former t = rw (le-leb 6 (length b) h, ← e, le-leb (n * 4) (length b - 6) l, ← former, not-true r t)
 
-  pub kept-broken : t ≡ false → Broken ≡ bodyOf t true
-  unfolding bodyOf
-  kept-broken e = rw e
+      pub update-rest : not r ≡ false → (v : Bool) → v ≡ goodProviders (take (length b - (6 + n * 4)) (drop (6 + n * 4) b))
+          → v ≡ goodUpdate b
+      unfolding goodUpdate
+      update-rest t v w =
+          rw (le-leb 6 (length b) h, ← e, le-leb (n * 4) (length b - 6) l, ← former, not-false r t, ← to-end b (6 + n * 4)) w
 
--- ---- lists of providers
+pub ruleset bodies = (key-short, key-rest, sized-many, sized-rest, providers-unsized, providers-rest, aspa-short, aspa-rest, update-short, update-cut, update-former, update-rest)
 
-module _ (b : List ℕ) (c : Asn) where
-  pub providers-many : 4_096 < length b / 4 → Broken ≡ bodyOf (goodProviders b) (sensibleAsns (c .0) (asns b))
-  unfolding goodProviders bodyOf
-  providers-many k = rw (lt-leb (length b / 4) 4_096 k)
-
-  module _ (k : length b / 4 ≤ 4_096) where
-    pub providers-odd : (length b % 4 ≡ 0 → ⊥) → Broken ≡ bodyOf (goodProviders b) (sensibleAsns (c .0) (asns b))
-    unfolding goodProviders bodyOf
-    providers-odd n = rw (le-leb (length b / 4) 4_096 k, ne-eqb (length b % 4) 0 n)
-
-    module _ (e : length b % 4 ≡ 0) where
-      rest : goodProviders b ≡ ascending (asns b)
-      unfolding goodProviders
-      rest = rw (le-leb (length b / 4) 4_096 k, eq-eqb (length b % 4) 0 e)
-
-      module _ (r : Bool) (q : r ≡ ascending (asns b) && sensibleAsns (c .0) (asns b)) where
-        pub providers-sound : r ≡ true → Sound ≡ bodyOf (goodProviders b) (sensibleAsns (c .0) (asns b))
-        unfolding bodyOf
-        providers-sound t = rw rest (go (ascending (asns b)) (sensibleAsns (c .0) (asns b)) (sym t ∙ q))
-          where
-            go : (x y : Bool) → true ≡ x && y → Sound ≡ bodyOf x y
-            go true true d = refl
-            go true false d = cc
-            go false y d = cc
-
-        module _ (t : r ≡ false) (v : Bool) (w : v ≡ ascending (asns b)) where
-          pub providers-senseless : v ≡ true → Senseless ≡ bodyOf (goodProviders b) (sensibleAsns (c .0) (asns b))
-          unfolding bodyOf
-          providers-senseless d = rw rest (go (ascending (asns b)) (sensibleAsns (c .0) (asns b)) (sym w ∙ d) (sym t ∙ q))
-            where
-              go : (x y : Bool) → x ≡ true → false ≡ x && y → Senseless ≡ bodyOf x y
-              go true true p d = cc
-              go true false p d = refl
-              go false y p d = cc
-
-          pub providers-broken : v ≡ false → Broken ≡ bodyOf (goodProviders b) (sensibleAsns (c .0) (asns b))
-          unfolding bodyOf
-          providers-broken d = rw (rest, ← w, d)
-
--- ---- ASPAs and updates
+-- ---- bodies that make sense too
 
 -- the customer's number is that of the body's first four bytes
 customer : (b : List ℕ) → fourAt (take 4 b) 0 ≡ fourAt b 0
@@ -131,34 +84,59 @@ customer (p ∷ q ∷ []) = refl
 customer (p ∷ q ∷ r ∷ []) = refl
 customer (p ∷ q ∷ r ∷ s ∷ b) = refl
 
+-- both lists by both rules, each list by itself
+each : (a b c d : Bool) → (a && c) && (b && d) ≡ (a && b) && (c && d)
+each true true c d = refl
+each true false true d = refl
+each true false false d = refl
+each false b c d = refl
+
+module _ (b : List ℕ) (c : Asn) (t : Bool) (e : t ≡ leb (length b / 4) 4_096 && eqb (length b % 4) 0) where
+  pub sound-unsized : not t ≡ true → false ≡ goodProviders b && sensibleAsns (c .0) (asns b)
+  unfolding goodProviders
+  sound-unsized n = rw (← e, not-true t n)
+
+  pub sound-rest : (r : Bool) → not t ≡ false → r ≡ ascending (asns b) && sensibleAsns (c .0) (asns b)
+      → r ≡ goodProviders b && sensibleAsns (c .0) (asns b)
+  unfolding goodProviders
+  sound-rest r n q = rw (← e, not-false t n) q
+
 module _ (b : List ℕ) where
-  pub aspa-short : length b < 4 → Broken ≡ bodyOf (goodAspa b) (sensibleAspa b)
-  unfolding goodAspa bodyOf
-  aspa-short h = rw (lt-leb 4 (length b) h)
+  pub sound-short : length b < 4 → false ≡ goodAspa b && sensibleAspa b
+  unfolding goodAspa
+  sound-short h = rw (lt-leb 4 (length b) h)
 
-  pub aspa-rest : (r : Body) (c : Asn) → 4 ≤ length b → c ≡ asnAt b 0
-      → r ≡ bodyOf (goodProviders (take (length b - 4) (drop 4 b))) (sensibleAsns (c .0) (asns (take (length b - 4) (drop 4 b))))
-      → r ≡ bodyOf (goodAspa b) (sensibleAspa b)
+  pub sound-aspa : (r : Bool) (c : Asn) → 4 ≤ length b → c ≡ asnAt b 0
+      → r ≡ goodProviders (take (length b - 4) (drop 4 b)) && sensibleAsns (c .0) (asns (take (length b - 4) (drop 4 b)))
+      → r ≡ goodAspa b && sensibleAspa b
   unfolding goodAspa sensibleAspa sensibleProviders
-  aspa-rest r c h e q = rw (le-leb 4 (length b) h, customer b) (rw (e, to-end b 4) at q)
+  sound-aspa r c h e q = rw (le-leb 4 (length b) h, customer b) (rw (e, to-end b 4) at q)
 
-  pub update-short : length b < 6 → Broken ≡ bodyOf (goodUpdate b) (sensibleUpdate b)
-  unfolding goodUpdate bodyOf
-  update-short h = rw (lt-leb 6 (length b) h)
+  pub sound-brief : length b < 6 → false ≡ goodUpdate b && sensibleUpdate b
+  unfolding goodUpdate
+  sound-brief h = rw (lt-leb 6 (length b) h)
 
   module _ (n : ℕ) (h : 6 ≤ length b) (e : n ≡ twoAt b 4) where
-    pub update-cut : length b - 6 < n * 4 → Broken ≡ bodyOf (goodUpdate b) (sensibleUpdate b)
-    unfolding goodUpdate bodyOf
-    update-cut l = rw (le-leb 6 (length b) h, ← e, lt-leb (n * 4) (length b - 6) l)
+    pub sound-cut : length b - 6 < n * 4 → false ≡ goodUpdate b && sensibleUpdate b
+    unfolding goodUpdate
+    sound-cut l = rw (le-leb 6 (length b) h, ← e, lt-leb (n * 4) (length b - 6) l)
 
-    pub update-rest : (r x y : Body) (c : Asn) → n * 4 ≤ length b - 6 → c ≡ asnAt b 0
-        → x ≡ bodyOf (goodProviders (take (6 + n * 4 - 6) (drop 6 b))) (sensibleAsns (c .0) (asns (take (6 + n * 4 - 6) (drop 6 b))))
-        → y ≡ bodyOf (goodProviders (take (length b - (6 + n * 4)) (drop (6 + n * 4) b))) (sensibleAsns (c .0) (asns (take (length b - (6 + n * 4)) (drop (6 + n * 4) b))))
-        → r ≡ bothOf x y → r ≡ bodyOf (goodUpdate b) (sensibleUpdate b)
-    unfolding goodUpdate sensibleUpdate sensibleProviders
-    update-rest r x y c l d p q w =
-        let f : 6 + n * 4 - 6 ≡ n * 4 = omega arith in
-        rw (le-leb 6 (length b) h, ← e, le-leb (n * 4) (length b - 6) l, customer b)
-        (rw (p, q, d, f, to-end b (6 + n * 4), two-lists) at w)
+    module _ (l : n * 4 ≤ length b - 6) (c : Asn) (d : c ≡ asnAt b 0) (r : Bool)
+        (q : r ≡ goodProviders (take (6 + n * 4 - 6) (drop 6 b)) && sensibleAsns (c .0) (asns (take (6 + n * 4 - 6) (drop 6 b)))) where
+      first : r ≡ goodProviders (take (n * 4) (drop 6 b)) && sensibleAsns (fourAt b 0) (asns (take (n * 4) (drop 6 b)))
+      first = let f : 6 + n * 4 - 6 ≡ n * 4 = omega arith in rw (d, f) at q
 
-pub ruleset bodies = (key-short, key-rest, kept-sound, kept-broken, providers-many, providers-odd, providers-sound, providers-senseless, providers-broken, aspa-short, aspa-rest, update-short, update-cut, update-rest)
+      lists : goodUpdate b && sensibleUpdate b
+          ≡ r && (goodProviders (drop (6 + n * 4) b) && sensibleAsns (fourAt b 0) (asns (drop (6 + n * 4) b)))
+      unfolding goodUpdate sensibleUpdate sensibleProviders
+      lists = rw (le-leb 6 (length b) h, ← e, le-leb (n * 4) (length b - 6) l, customer b, first, each)
+
+      pub sound-former : not r ≡ true → false ≡ goodUpdate b && sensibleUpdate b
+      sound-former t = rw (lists, not-true r t)
+
+      pub sound-update : not r ≡ false → (v : Bool)
+          → v ≡ goodProviders (take (length b - (6 + n * 4)) (drop (6 + n * 4) b)) && sensibleAsns (c .0) (asns (take (length b - (6 + n * 4)) (drop (6 + n * 4) b)))
+          → v ≡ goodUpdate b && sensibleUpdate b
+      sound-update t v w = rw (lists, not-false r t) (rw (d, to-end b (6 + n * 4)) at w)
+
+pub ruleset sound-bodies = (sound-unsized, sound-rest, sound-short, sound-aspa, sound-brief, sound-cut, sound-former, sound-update)

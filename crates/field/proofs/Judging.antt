@@ -2,28 +2,28 @@
 use Prim.Native.Nat.{ℕ, zero, suc, _+_, _-_, _<_, _≤_}
 use mathlib.Core.Path.{_≡_, refl, sym, _∙_}
 use mathlib.Core.List.{List}
-use mathlib.Core.Bool.{true}
+use mathlib.Core.Bool.{Bool, true, false, not, cond, _&&_}
 use native.Mathlib.Omega.{arith}
+use borrow.Author.Tests.{not-true, not-false}
 use lib.ListN.{length, drop, length-drop, length-take}
 use Rattle.order.specs.declared.Ordering.{Ordering}
 use Rattle.order.specs.declared.Ordering.the-variants.{Less, Equal, Greater}
 use Rattle.order.specs.Comparison.{bytes}
-use Rattle.field.specs.declared.aspa.Body.{Body}
-use Rattle.field.specs.declared.aspa.Body.the-variants as body
 use Rattle.field.specs.declared.head.Field.{Field}
 use Rattle.field.specs.declared.head.Field.the-variants.{End, Cut, Whole}
 use Rattle.field.specs.declared.key.Key.{Key}
 use Rattle.field.specs.declared.tag.Form.{Form}
+use Rattle.field.specs.declared.verdict.Verdict.{Verdict}
 use Rattle.field.specs.declared.verdict.Verdict.the-variants.{Fine, Bad, Senseless, NotAbove}
-use Rattle.field.specs.Aspa.{bodyOf}
-use Rattle.field.specs.Tag.{goodBody, sensible, kindOf}
+use Rattle.field.specs.Tag.{goodBody, sensible, sound, kindOf}
 use Rattle.field.specs.Head.{front}
 use Rattle.field.specs.Verdict.{judge, verdictF, verdict}
 use Rattle.field.specs.Places.{part, fieldAt, keyIn, keyPlace}
+use Rattle.field.specs.Progress.{refusedAt}
 pub use Rattle.field.specs.Progress.{Judged}
-use Rattle.field.proofs.Bodies.{by-broken, by-senseless, by-sound}
 use Rattle.field.proofs.Fields.{end-at, cut-at, whole-at, body-ordered, body-within, field-less}
 use Rattle.field.proofs.Keys.{key-in}
+use Rattle.field.proofs.Sizes.{both}
 
 pub judged-start : (form : Form) (s : List ℕ) → Judged form s 0 (record { kind = 0; from = 0; to = 0 })
 unfolding verdict
@@ -55,24 +55,23 @@ module _ (form : Form) (s : List ℕ) (at : ℕ) (k : Key) (j : Judged form s at
     unfolding judge
     judged-cut e = rw (cut-at s at r f e) at (turn .2)
 
-    module _ (tag from to : ℕ) (e : r ≡ Whole tag from to) (b : Body) (g : b ≡ bodyOf (goodBody form tag (part s from to)) (sensible form tag (part s from to))) where
-      pub judged-bad : b ≡ body.Broken → Bad at ≡ verdict form s
-      unfolding judge
-      judged-bad t =
-          let w = whole-at s at r f tag from to e in
-          let p = by-broken (goodBody form tag (part s from to)) (sensible form tag (part s from to)) (sym g ∙ t) in
-          rw (w .reads, p) at (turn .2)
+    module _ (tag from to : ℕ) (e : r ≡ Whole tag from to) (b : Bool) (g : b ≡ sound form tag (part s from to)) where
+      -- not both good and sensible
+      pub judged-refused : not b ≡ true → (v : Verdict) → v ≡ refusedAt (goodBody form tag (part s from to)) at → v ≡ verdict form s
+      unfolding judge sound
+      judged-refused t v w =
+          let x = whole-at s at r f tag from to e in
+          w ∙ go (goodBody form tag (part s from to)) (sensible form tag (part s from to)) _ (sym (not-true b t) ∙ g) ∙ (rw (x .reads) at (turn .2))
+        where
+          go : (c d : Bool) (y : Verdict) → false ≡ c && d → refusedAt c at ≡ cond c (cond d y (Senseless at)) (Bad at)
+          go true true y q = cc
+          go true false y q = refl
+          go false d y q = refl
 
-      pub judged-senseless : b ≡ body.Senseless → Senseless at ≡ verdict form s
-      unfolding judge
-      judged-senseless t =
-          let w = whole-at s at r f tag from to e in
-          let p = by-senseless (goodBody form tag (part s from to)) (sensible form tag (part s from to)) (sym g ∙ t) in
-          rw (w .reads, p .0, p .1) at (turn .2)
-
-      module _ (t : b ≡ body.Sound) (kind : ℕ) (m : kind ≡ kindOf form tag) (key : Key) (p : key ≡ keyPlace kind from to) (o : Ordering) (l : o ≡ bytes (keyIn s k) (keyIn s key)) where
-        sound : (goodBody form tag (part s from to) ≡ true) × (sensible form tag (part s from to) ≡ true)
-        sound = by-sound (goodBody form tag (part s from to)) (sensible form tag (part s from to)) (sym g ∙ t)
+      module _ (t : not b ≡ false) (kind : ℕ) (m : kind ≡ kindOf form tag) (key : Key) (p : key ≡ keyPlace kind from to) (o : Ordering) (l : o ≡ bytes (keyIn s k) (keyIn s key)) where
+        parts : (goodBody form tag (part s from to) ≡ true) × (sensible form tag (part s from to) ≡ true)
+        unfolding sound
+        parts = both (goodBody form tag (part s from to)) (sensible form tag (part s from to)) (sym g ∙ not-false b t)
 
         found : judge form at (keyIn s k) (front (drop at s)) (verdictF form (turn .0)) ≡ verdict form s
         found = turn .2
@@ -82,14 +81,14 @@ module _ (form : Form) (s : List ℕ) (at : ℕ) (k : Key) (j : Judged form s at
         judged-equal u =
             let w = whole-at s at r f tag from to e in
             let i = key-in s kind from to (w .ordered) (w .within) key p in
-            rw (w .reads, sound .0, sound .1, ← m, ← i, ← l, u) at found
+            rw (w .reads, parts .0, parts .1, ← m, ← i, ← l, u) at found
 
         pub judged-greater : o ≡ Greater → NotAbove at ≡ verdict form s
         unfolding judge
         judged-greater u =
             let w = whole-at s at r f tag from to e in
             let i = key-in s kind from to (w .ordered) (w .within) key p in
-            rw (w .reads, sound .0, sound .1, ← m, ← i, ← l, u) at found
+            rw (w .reads, parts .0, parts .1, ← m, ← i, ← l, u) at found
 
         pub judged-next : o ≡ Less → Judged form s to key
         unfolding judge
@@ -104,7 +103,18 @@ module _ (form : Form) (s : List ℕ) (at : ℕ) (k : Key) (j : Judged form s at
               fuel = n;
               enough = omega arith;
               within = w .within;
-              rest = rw (w .reads, sound .0, sound .1, ← m, ← i, ← l, u, size, d) at found;
+              rest = rw (w .reads, parts .0, parts .1, ← m, ← i, ← l, u, size, d) at found;
             }
 
-pub ruleset judging = (judged-start, judged-end, judged-cut, judged-bad, judged-senseless, judged-equal, judged-greater, judged-next, field-less, body-ordered, body-within)
+-- ---- refused
+
+module _ (form : Form) (tag : ℕ) (b : List ℕ) (at : ℕ) (v : Bool) (e : v ≡ goodBody form tag b) where
+  pub refused-senseless : v ≡ true → Senseless at ≡ refusedAt (goodBody form tag b) at
+  refused-senseless d = rw (← e, d)
+
+  pub refused-bad : v ≡ false → Bad at ≡ refusedAt (goodBody form tag b) at
+  refused-bad d = rw (← e, d)
+
+pub ruleset refusing = (refused-senseless, refused-bad)
+
+pub ruleset judging = (judged-start, judged-end, judged-cut, judged-refused, judged-equal, judged-greater, judged-next, field-less, body-ordered, body-within)

@@ -1,11 +1,9 @@
 -- The body of an ASPA: customer 4, then the providers; and of the update of one.
 use Prim.Native.Nat.{ℕ, _+_, _-_, _*_, _/_, _%_}
 use mathlib.Core.List.{List, [], _∷_}
-use mathlib.Core.Bool.{Bool, true, false, cond, not, _&&_, _||_}
+use mathlib.Core.Bool.{Bool, true, false, not, _&&_, _||_}
 use lib.ListN.{length, take, drop}
 use lib.Dec.{leb, ltb, eqb}
-use Rattle.field.specs.declared.aspa.Body.{Body}
-use Rattle.field.specs.declared.aspa.Body.the-variants.{Broken, Senseless, Sound}
 use Rattle.field.specs.Number.{four, twoAt, fourAt}
 
 -- the AS numbers of four bytes each; a rest of fewer than four bytes is none
@@ -78,17 +76,3 @@ sensibleAspa b = sensibleProviders (customerOf b) (drop 4 b)
 -- and of an update the former ones and the new ones
 unfoldable pub sensibleUpdate : List ℕ → Bool
 sensibleUpdate b = sensibleProviders (customerOf b) (formerOf b) && sensibleProviders (customerOf b) (newOf b)
-
--- ---- what a body is found to be
-
--- by its rule, refusal 1, and then by whether it makes sense, refusal 12
-unfoldable pub bodyOf : Bool → Bool → Body
-bodyOf good sensible = cond good (cond sensible Sound Senseless) Broken
-
--- of two lists: broken if either is, else senseless if either is
-abbrev pub bothOf : Body → Body → Body
-bothOf Broken y = Broken
-bothOf Senseless Broken = Broken
-bothOf Senseless Senseless = Senseless
-bothOf Senseless Sound = Senseless
-bothOf Sound y = y

@@ -2,12 +2,14 @@
 use Prim.Native.Nat.{ℕ, _+_, _-_, _<_, _≤_}
 use mathlib.Core.Path.{_≡_}
 use mathlib.Core.List.{List}
-use mathlib.Core.Bool.{Bool, true}
+use mathlib.Core.Bool.{Bool, true, cond}
 use lib.ListN.{length, drop}
 use Rattle.field.specs.declared.key.Key.{Key}
 use Rattle.field.specs.declared.tag.Form.{Form}
 use Rattle.field.specs.declared.head.Field.the-variants.{Whole}
 use Rattle.field.specs.declared.verdict.Stand.{Stand}
+use Rattle.field.specs.declared.verdict.Verdict.{Verdict}
+use Rattle.field.specs.declared.verdict.Verdict.the-variants.{Bad, Senseless}
 use Rattle.field.specs.Tag.{kindOf, goodBody, sensible}
 use Rattle.field.specs.Places.{part, fieldAt, keyIn, keyPlace}
 use Rattle.field.specs.Verdict.{verdictF, verdict}
@@ -22,6 +24,10 @@ pub record Judged (form : Form) (s : List ℕ) (at : ℕ) (k : Key) : Type 0 whe
 -- behind a field of this kind, with the body from `from` up to `to`
 abbrev pub standBehind : ℕ → ℕ → ℕ → Stand
 standBehind kind from to = record { at = to; before = keyPlace kind from to }
+
+-- the refusal of the field at `at`, whose body is not both good and sensible, by whether it is good
+abbrev pub refusedAt : Bool → ℕ → Verdict
+refusedAt good at = cond good (Senseless at) (Bad at)
 
 -- a yes is right, a no decides nothing
 pub record If (r : Bool) (P : Type 0) : Type 0 where

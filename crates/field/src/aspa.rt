@@ -5,42 +5,11 @@ use crate::number::two_at;
 use order::Ordering;
 use serial::Asn;
 ghost use mathlib.Core.Path.{_≡_};
-ghost use mathlib.Core.Bool.{true, _&&_};
-ghost use Rattle.field.specs.Aspa.{asns, ascending, goodProviders, goodAspa, goodUpdate, sensibleAsns, sensibleAspa, sensibleUpdate, bodyOf, bothOf};
-
-// What a body is found to be.
-pub enum Body {
-    // It breaks its rule.
-    Broken,
-    // It keeps to its rule and makes no sense.
-    Senseless,
-    Sound,
-}
-
-// By whether a body keeps to its rule, where each one that does makes sense.
-pub(crate) fn kept(ok: bool) -> Body
-    ensures { λ r. ⌜ r ≡ bodyOf ok true ⌝ }
-{
-    if ok {
-        return Body::Sound;
-    }
-    Body::Broken
-}
-
-// What two lists of one body are found to be.
-fn both(first: Body, second: Body) -> Body
-    ensures { λ r. ⌜ r ≡ bothOf first second ⌝ }
-{
-    match first {
-        Body::Broken => Body::Broken,
-        Body::Senseless => match second {
-            Body::Broken => Body::Broken,
-            Body::Senseless => Body::Senseless,
-            Body::Sound => Body::Senseless,
-        },
-        Body::Sound => second,
-    }
-}
+ghost use mathlib.Core.Bool.{_&&_};
+ghost use Prim.Native.Nat.{_/_, _%_};
+ghost use lib.Dec.{leb, eqb};
+ghost use lib.ListN.{length};
+ghost use Rattle.field.specs.Aspa.{asns, ascending, goodProviders, goodAspa, goodUpdate, sensibleAsns, sensibleAspa, sensibleUpdate};
 
 // Whether each AS number is above the one before it.
 fn ascending_asns(s: &[u8]) -> bool
@@ -63,6 +32,54 @@ fn ascending_asns(s: &[u8]) -> bool
         }
     }
     true
+}
+
+// Whether these are 0 to 4,096 AS numbers.
+fn sized(s: &[u8]) -> bool
+    ensures { λ r. ⌜ r ≡ leb (length (now (s .entry)) / 4) 4096 && eqb (length (now (s .entry)) % 4) 0 ⌝ }
+{
+    if 4096 < s.len() / 4 {
+        return false;
+    }
+    s.len() % 4 == 0
+}
+
+// Whether this is a list of providers: 0 to 4,096 AS numbers, strictly ascending.
+pub fn providers_ok(s: &[u8]) -> bool
+    ensures { λ r. ⌜ r ≡ goodProviders (now (s .entry)) ⌝ }
+{
+    if !sized(s) {
+        return false;
+    }
+    ascending_asns(s)
+}
+
+// Whether this is the body of an ASPA: customer, providers.
+pub fn aspa_ok(body: &[u8]) -> bool
+    ensures { λ r. ⌜ r ≡ goodAspa (now (body .entry)) ⌝ }
+{
+    if body.len() < 4 {
+        return false;
+    }
+    providers_ok(&body[4..])
+}
+
+// Whether this is the body of an update: customer, count of former providers, those, the new ones.
+pub fn update_ok(body: &[u8]) -> bool
+    ensures { λ r. ⌜ r ≡ goodUpdate (now (body .entry)) ⌝ }
+{
+    if body.len() < 6 {
+        return false;
+    }
+    let size = two_at(body, 4) * 4;
+    if body.len() - 6 < size {
+        return false;
+    }
+    let end = 6 + size;
+    if !providers_ok(&body[6..end]) {
+        return false;
+    }
+    providers_ok(&body[end..])
 }
 
 // Whether there is an AS number, each is above the one before it, and none is the customer.
@@ -91,50 +108,41 @@ fn sound_asns(customer: Asn, s: &[u8]) -> bool
     true
 }
 
-// A customer's list of providers: 0 to 4,096 AS numbers, strictly ascending. One walk finds a sound list; only of another
-// is asked, by a second walk, which refusal it gets.
-fn judge_providers(customer: Asn, s: &[u8]) -> Body
-    ensures { λ r. ⌜ r ≡ bodyOf (goodProviders (now (s .entry))) (sensibleAsns (customer .0) (asns (now (s .entry)))) ⌝ }
+// Whether this is a list of providers that makes sense for the customer.
+fn providers_sound(customer: Asn, s: &[u8]) -> bool
+    ensures { λ r. ⌜ r ≡ goodProviders (now (s .entry)) && sensibleAsns (customer .0) (asns (now (s .entry))) ⌝ }
 {
-    if 4096 < s.len() / 4 {
-        return Body::Broken;
+    if !sized(s) {
+        return false;
     }
-    if s.len() % 4 != 0 {
-        return Body::Broken;
-    }
-    if sound_asns(customer, s) {
-        return Body::Sound;
-    }
-    if ascending_asns(s) {
-        return Body::Senseless;
-    }
-    Body::Broken
+    sound_asns(customer, s)
 }
 
-// The body of an ASPA: customer, providers.
-pub fn judge_aspa(body: &[u8]) -> Body
-    ensures { λ r. ⌜ r ≡ bodyOf (goodAspa (now (body .entry))) (sensibleAspa (now (body .entry))) ⌝ }
+// Whether this is the body of an ASPA that makes sense.
+pub fn aspa_sound(body: &[u8]) -> bool
+    ensures { λ r. ⌜ r ≡ goodAspa (now (body .entry)) && sensibleAspa (now (body .entry)) ⌝ }
 {
     if body.len() < 4 {
-        return Body::Broken;
+        return false;
     }
-    judge_providers(asn_at(body, 0), &body[4..])
+    providers_sound(asn_at(body, 0), &body[4..])
 }
 
-// The body of an update: customer, count of former providers, those, the new ones.
-pub fn judge_update(body: &[u8]) -> Body
-    ensures { λ r. ⌜ r ≡ bodyOf (goodUpdate (now (body .entry))) (sensibleUpdate (now (body .entry))) ⌝ }
+// Whether this is the body of an update that makes sense, the former providers and the new ones.
+pub fn update_sound(body: &[u8]) -> bool
+    ensures { λ r. ⌜ r ≡ goodUpdate (now (body .entry)) && sensibleUpdate (now (body .entry)) ⌝ }
 {
     if body.len() < 6 {
-        return Body::Broken;
+        return false;
     }
     let size = two_at(body, 4) * 4;
     if body.len() - 6 < size {
-        return Body::Broken;
+        return false;
     }
     let end = 6 + size;
     let customer = asn_at(body, 0);
-    let former = judge_providers(customer, &body[6..end]);
-    let new = judge_providers(customer, &body[end..]);
-    both(former, new)
+    if !providers_sound(customer, &body[6..end]) {
+        return false;
+    }
+    providers_sound(customer, &body[end..])
 }

@@ -1,13 +1,13 @@
 // Tags: the kind of a field's item, what a delta does with it, and so which rules its body follows.
-use crate::aspa::Body;
-use crate::aspa::judge_aspa;
-use crate::aspa::judge_update;
-use crate::aspa::kept;
+use crate::aspa::aspa_ok;
+use crate::aspa::aspa_sound;
+use crate::aspa::update_ok;
+use crate::aspa::update_sound;
 use crate::origin::origin_ok;
 use crate::router_key::router_key_ok;
 ghost use mathlib.Core.Path.{_≡_};
-ghost use Rattle.field.specs.Aspa.{bodyOf};
-ghost use Rattle.field.specs.Tag.{itemTag, changeTag, tagOf, kindOf, goodAspaBody, goodBody, sensibleAspaBody, sensible};
+ghost use mathlib.Core.Bool.{_&&_};
+ghost use Rattle.field.specs.Tag.{itemTag, changeTag, tagOf, kindOf, goodAspaBody, goodBody, sensibleAspaBody, sound};
 
 // The runs of fields that there are.
 pub enum Form {
@@ -81,26 +81,50 @@ pub fn kind_of(form: Form, tag: u8) -> u8
     }
 }
 
-// The body of an ASPA's field.
-fn judge_aspa_body(action: Action, body: &[u8]) -> Body
-    ensures { λ r. ⌜ r ≡ bodyOf (goodAspaBody action (now (body .entry))) (sensibleAspaBody action (now (body .entry))) ⌝ }
+// Whether the body of an ASPA's field keeps to its rule.
+fn aspa_body_ok(action: Action, body: &[u8]) -> bool
+    ensures { λ r. ⌜ r ≡ goodAspaBody action (now (body .entry)) ⌝ }
 {
     match action {
-        Action::Hold => judge_aspa(body),
-        Action::Announce => judge_aspa(body),
-        Action::Withdraw => judge_aspa(body),
-        Action::Update => judge_update(body),
+        Action::Hold => aspa_ok(body),
+        Action::Announce => aspa_ok(body),
+        Action::Withdraw => aspa_ok(body),
+        Action::Update => update_ok(body),
     }
 }
 
-// Whether the tag is known, the body keeps to its rule, and it makes sense.
-pub fn judge_body(form: Form, tag: u8, body: &[u8]) -> Body
-    ensures { λ r. ⌜ r ≡ bodyOf (goodBody form tag (now (body .entry))) (sensible form tag (now (body .entry))) ⌝ }
+// Whether the tag is known and the body keeps to its rule.
+pub fn body_ok(form: Form, tag: u8, body: &[u8]) -> bool
+    ensures { λ r. ⌜ r ≡ goodBody form tag (now (body .entry)) ⌝ }
 {
     match tag_of(form, tag) {
-        Tag::Unknown => Body::Broken,
-        Tag::Origin(_) => kept(origin_ok(body)),
-        Tag::RouterKey(_) => kept(router_key_ok(body)),
-        Tag::Aspa(action) => judge_aspa_body(action, body),
+        Tag::Unknown => false,
+        Tag::Origin(_) => origin_ok(body),
+        Tag::RouterKey(_) => router_key_ok(body),
+        Tag::Aspa(action) => aspa_body_ok(action, body),
+    }
+}
+
+// Whether the body of an ASPA's field keeps to its rule and makes sense.
+fn aspa_body_sound(action: Action, body: &[u8]) -> bool
+    ensures { λ r. ⌜ r ≡ goodAspaBody action (now (body .entry)) && sensibleAspaBody action (now (body .entry)) ⌝ }
+{
+    match action {
+        Action::Hold => aspa_sound(body),
+        Action::Announce => aspa_sound(body),
+        Action::Withdraw => aspa_sound(body),
+        Action::Update => update_sound(body),
+    }
+}
+
+// Whether the tag is known and the body keeps to its rule and makes sense.
+pub fn body_sound(form: Form, tag: u8, body: &[u8]) -> bool
+    ensures { λ r. ⌜ r ≡ sound form tag (now (body .entry)) ⌝ }
+{
+    match tag_of(form, tag) {
+        Tag::Unknown => false,
+        Tag::Origin(_) => origin_ok(body),
+        Tag::RouterKey(_) => router_key_ok(body),
+        Tag::Aspa(action) => aspa_body_sound(action, body),
     }
 }

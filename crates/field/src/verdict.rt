@@ -1,5 +1,4 @@
 // The check of a whole snapshot or delta.
-use crate::aspa::Body;
 use crate::head::Field;
 use crate::head::field_at;
 use crate::key::Key;
@@ -7,7 +6,8 @@ use crate::key::key_at;
 use crate::key::key_compare;
 use crate::number::four_at;
 use crate::tag::Form;
-use crate::tag::judge_body;
+use crate::tag::body_ok;
+use crate::tag::body_sound;
 use crate::tag::kind_of;
 use crate::words::next_words;
 use crate::words::words_at;
@@ -15,8 +15,9 @@ use order::Ordering;
 ghost use mathlib.Core.Path.{_≡_};
 ghost use Prim.Native.Nat.{_+_, _-_, _≤_};
 ghost use Rattle.field.specs.Places.{keyPlace};
+ghost use Rattle.field.specs.Tag.{goodBody};
 ghost use Rattle.field.specs.Verdict.{verdict};
-ghost use Rattle.field.specs.Progress.{Judged, standBehind, Reaches, Further};
+ghost use Rattle.field.specs.Progress.{Judged, standBehind, refusedAt, Reaches, Further};
 
 // What the check finds: nothing, or the first bad field, by its offset.
 pub enum Verdict {
@@ -77,11 +78,10 @@ fn good_end(form: Form, kind: u8, s: &[u8], at: usize) -> usize
             if kind_of(form, tag) != kind {
                 return at;
             }
-            match judge_body(form, tag, &s[from..to]) {
-                Body::Broken => at,
-                Body::Senseless => at,
-                Body::Sound => to,
+            if !body_sound(form, tag, &s[from..to]) {
+                return at;
             }
+            to
         }
     }
 }
@@ -137,6 +137,16 @@ fn pass(form: Form, s: &[u8], at: usize, before: Key) -> Stand
     pass_origins(form, s, at)
 }
 
+// The refusal of the field at `at`, whose body breaks its rule or makes no sense.
+fn refused(form: Form, tag: u8, body: &[u8], at: usize) -> Verdict
+    ensures { λ r. ⌜ r ≡ refusedAt (goodBody form tag (now (body .entry))) at ⌝ }
+{
+    if body_ok(form, tag, body) {
+        return Verdict::Senseless { at };
+    }
+    Verdict::Bad { at }
+}
+
 // The check of a snapshot or a delta.
 pub fn check(form: Form, s: &[u8]) -> Verdict
     ensures { λ r. ⌜ r ≡ verdict form (now (s .entry)) ⌝ }
@@ -152,22 +162,19 @@ pub fn check(form: Form, s: &[u8]) -> Verdict
             Field::End => return Verdict::Fine,
             Field::Cut => return Verdict::Bad { at },
             Field::Whole { tag, from, to } => {
-                match judge_body(form, tag, &s[from..to]) {
-                    Body::Broken => return Verdict::Bad { at },
-                    Body::Senseless => return Verdict::Senseless { at },
-                    Body::Sound => {
-                        let key = key_at(kind_of(form, tag), from, to);
-                        match key_compare(s, before, s, key) {
-                            Ordering::Less => {
-                                let stand = pass(form, s, to, key);
-                                let last = stand.before;
-                                before = last;
-                                at = stand.at;
-                            }
-                            Ordering::Equal => return Verdict::NotAbove { at },
-                            Ordering::Greater => return Verdict::NotAbove { at },
-                        }
+                if !body_sound(form, tag, &s[from..to]) {
+                    return refused(form, tag, &s[from..to], at);
+                }
+                let key = key_at(kind_of(form, tag), from, to);
+                match key_compare(s, before, s, key) {
+                    Ordering::Less => {
+                        let stand = pass(form, s, to, key);
+                        let last = stand.before;
+                        before = last;
+                        at = stand.at;
                     }
+                    Ordering::Equal => return Verdict::NotAbove { at },
+                    Ordering::Greater => return Verdict::NotAbove { at },
                 }
             }
         }

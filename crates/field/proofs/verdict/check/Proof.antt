@@ -1,5 +1,5 @@
 use borrow.Author.Needs.{needs}
-use Rattle.field.proofs.Judging.{Judged, judging, judged-next}
+use Rattle.field.proofs.Judging.{Judged, judging}
 use Rattle.field.proofs.Passing.{further}
 use Prim.Native.Nat.{_-_, _+_}
 use lib.ListN.{length}
@@ -33,32 +33,32 @@ returns-2 c = search (judging, further, needs)
 enum-known-tag : tie.Need-enum-known-tag Inv-loop μ-loop
 enum-known-tag c = search (judging, further, needs)
 
-sub-judge-body : tie.Need-sub-judge-body Inv-loop μ-loop
-sub-judge-body c = search (judging, further, needs)
+sub-body-sound : tie.Need-sub-body-sound Inv-loop μ-loop
+sub-body-sound c = search (judging, further, needs)
 
-part-judge-body-start : tie.Need-part-judge-body-start Inv-loop μ-loop
-part-judge-body-start c = search (judging, further, needs)
+part-body-sound-start : tie.Need-part-body-sound-start Inv-loop μ-loop
+part-body-sound-start c = search (judging, further, needs)
 
-part-judge-body-end : tie.Need-part-judge-body-end Inv-loop μ-loop
-part-judge-body-end c = search (judging, further, needs)
+part-body-sound-end : tie.Need-part-body-sound-end Inv-loop μ-loop
+part-body-sound-end c = search (judging, further, needs)
 
-judge-body-requires : tie.Need-judge-body-requires Inv-loop μ-loop
-judge-body-requires c κs = search (judging, further, needs)
+body-sound-requires : tie.Need-body-sound-requires Inv-loop μ-loop
+body-sound-requires c κs = search (judging, further, needs)
 
-enum-told-3 : tie.Need-enum-told-3 Inv-loop μ-loop
-enum-told-3 c = search (judging, further, needs)
+sub-refused : tie.Need-sub-refused Inv-loop μ-loop
+sub-refused c = search (judging, further, needs)
+
+part-refused-start : tie.Need-part-refused-start Inv-loop μ-loop
+part-refused-start c = search (judging, further, needs)
+
+part-refused-end : tie.Need-part-refused-end Inv-loop μ-loop
+part-refused-end c = search (judging, further, needs)
+
+refused-requires : tie.Need-refused-requires Inv-loop μ-loop
+refused-requires c κs = search (judging, further, needs)
 
 returns-3 : tie.Need-returns-3 Inv-loop μ-loop
 returns-3 c = search (judging, further, needs)
-
-enum-told-4 : tie.Need-enum-told-4 Inv-loop μ-loop
-enum-told-4 c = search (judging, further, needs)
-
-returns-4 : tie.Need-returns-4 Inv-loop μ-loop
-returns-4 c = search (judging, further, needs)
-
-enum-told-5 : tie.Need-enum-told-5 Inv-loop μ-loop
-enum-told-5 c = search (judging, further, needs)
 
 kind-of-requires : tie.Need-kind-of-requires Inv-loop μ-loop
 kind-of-requires c κs = search (judging, further, needs)
@@ -69,12 +69,11 @@ key-at-requires c κs = search (judging, further, needs)
 key-compare-requires : tie.Need-key-compare-requires Inv-loop μ-loop
 key-compare-requires c κs = search (judging, further, needs)
 
-enum-told-6 : tie.Need-enum-told-6 Inv-loop μ-loop
-enum-told-6 c = search (judging, further, needs)
+enum-told-3 : tie.Need-enum-told-3 Inv-loop μ-loop
+enum-told-3 c = search (judging, further, needs)
 
 pass-requires : tie.Need-pass-requires Inv-loop μ-loop
-pass-requires c κs =
-    judged-next _ _ _ _ (c .before .before .before .before .before .before .before .before .before .before .before .before .before .loop .inv) _ (c .before .before .before .before .before .before .before .before .before .before .before .before .field-at .ensures) _ _ _ (c .before .before .before .before .before .before .before .before .before .before .tag .given .1) _ (c .before .before .before .before .before .before .before .judge-body .ensures) (c .before .before .before .before .before .enum-told5 .given .1) _ (c .before .before .before .before .kind-of .ensures) _ (c .before .before .before .key-at .ensures) _ (c .before .before .key-compare .ensures) (c .enum-told6 .given .1)
+pass-requires c κs = search (judging, further, needs)
 
 loop-less : tie.Need-loop-less Inv-loop μ-loop
 loop-less c = search (judging, further, needs)
@@ -82,17 +81,17 @@ loop-less c = search (judging, further, needs)
 loop-again : tie.Need-loop-again Inv-loop μ-loop
 loop-again c = search (judging, further, needs)
 
-enum-told-7 : tie.Need-enum-told-7 Inv-loop μ-loop
-enum-told-7 c = search (judging, further, needs)
+enum-told-4 : tie.Need-enum-told-4 Inv-loop μ-loop
+enum-told-4 c = search (judging, further, needs)
+
+returns-4 : tie.Need-returns-4 Inv-loop μ-loop
+returns-4 c = search (judging, further, needs)
+
+enum-told-5 : tie.Need-enum-told-5 Inv-loop μ-loop
+enum-told-5 c = search (judging, further, needs)
 
 returns-5 : tie.Need-returns-5 Inv-loop μ-loop
 returns-5 c = search (judging, further, needs)
-
-enum-told-8 : tie.Need-enum-told-8 Inv-loop μ-loop
-enum-told-8 c = search (judging, further, needs)
-
-returns-6 : tie.Need-returns-6 Inv-loop μ-loop
-returns-6 c = search (judging, further, needs)
 
 pub check-spec : {M : Type 1} → statement M
 check-spec =
@@ -107,23 +106,23 @@ check-spec =
     enum-told-2
     returns-2
     enum-known-tag
-    sub-judge-body
-    part-judge-body-start
-    part-judge-body-end
-    judge-body-requires
-    enum-told-3
+    sub-body-sound
+    part-body-sound-start
+    part-body-sound-end
+    body-sound-requires
+    sub-refused
+    part-refused-start
+    part-refused-end
+    refused-requires
     returns-3
-    enum-told-4
-    returns-4
-    enum-told-5
     kind-of-requires
     key-at-requires
     key-compare-requires
-    enum-told-6
+    enum-told-3
     pass-requires
     loop-less
     loop-again
-    enum-told-7
-    returns-5
-    enum-told-8
-    returns-6)
+    enum-told-4
+    returns-4
+    enum-told-5
+    returns-5)

@@ -21,26 +21,17 @@ kind-of-requires c κs = search (reaching, needs)
 returns : tie.Need-returns
 returns c = search (reaching, needs)
 
-sub-judge-body : tie.Need-sub-judge-body
-sub-judge-body c = search (reaching, needs)
+sub-body-sound : tie.Need-sub-body-sound
+sub-body-sound c = search (reaching, needs)
 
-part-judge-body-start : tie.Need-part-judge-body-start
-part-judge-body-start c = search (reaching, needs)
+part-body-sound-start : tie.Need-part-body-sound-start
+part-body-sound-start c = search (reaching, needs)
 
-part-judge-body-end : tie.Need-part-judge-body-end
-part-judge-body-end c = search (reaching, needs)
+part-body-sound-end : tie.Need-part-body-sound-end
+part-body-sound-end c = search (reaching, needs)
 
-judge-body-requires : tie.Need-judge-body-requires
-judge-body-requires c κs = search (reaching, needs)
-
-enum-told-3 : tie.Need-enum-told-3
-enum-told-3 c = search (reaching, needs)
-
-enum-told-4 : tie.Need-enum-told-4
-enum-told-4 c = search (reaching, needs)
-
-enum-told-5 : tie.Need-enum-told-5
-enum-told-5 c = search (reaching, needs)
+body-sound-requires : tie.Need-body-sound-requires
+body-sound-requires c κs = search (reaching, needs)
 
 returns-2 : tie.Need-returns-2
 returns-2 c = search (reaching, needs)
@@ -54,9 +45,6 @@ returns-4 c = search (reaching, needs)
 returns-5 : tie.Need-returns-5
 returns-5 c = search (reaching, needs)
 
-returns-6 : tie.Need-returns-6
-returns-6 c = search (reaching, needs)
-
 pub good-end-spec : {M : Type 1} → statement M
 good-end-spec =
     tie.close
@@ -67,15 +55,11 @@ good-end-spec =
     enum-known-tag
     kind-of-requires
     returns
-    sub-judge-body
-    part-judge-body-start
-    part-judge-body-end
-    judge-body-requires
-    enum-told-3
-    enum-told-4
-    enum-told-5
+    sub-body-sound
+    part-body-sound-start
+    part-body-sound-end
+    body-sound-requires
     returns-2
     returns-3
     returns-4
-    returns-5
-    returns-6)
+    returns-5)
