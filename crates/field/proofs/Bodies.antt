@@ -1,17 +1,20 @@
 -- The bodies of router keys, ASPAs and updates: each way through a check, with what the tests on that way said.
-use Prim.Native.Nat.{ℕ, _+_, _-_, _*_, _/_, _%_, _<_, _≤_}
-use mathlib.Core.Path.{_≡_, refl, ap, _∙_}
+use Prim.Native.Nat.{ℕ, zero, suc, _+_, _-_, _*_, _/_, _%_, _<_, _≤_}
+use mathlib.Core.Path.{_≡_, refl, sym, _∙_}
 use mathlib.Core.List.{List, [], _∷_}
 use mathlib.Core.Bool.{Bool, true, false, not, _&&_}
 use native.Mathlib.Omega.{arith}
-use borrow.Author.Tests.{le-leb, lt-leb, not-true, not-false}
+use borrow.Author.Tests.{le-leb, lt-leb, eq-eqb, ne-eqb, eqb-true, not-true, not-false}
 use lib.Dec.{leb, eqb}
 use lib.ListN.{length, take, drop, length-drop}
 use lib.Seq.{take-all}
 use Rattle.serial.specs.declared.Asn.{Asn}
 use Rattle.field.specs.Number.{twoAt, fourAt, asnAt}
 use Rattle.field.specs.RouterKey.{goodRouterKey}
-use Rattle.field.specs.Aspa.{asns, ascending, goodProviders, goodAspa, goodUpdate, sensibleAsns, sensibleProviders, sensibleAspa, sensibleUpdate}
+use Rattle.field.specs.Aspa.{asns, ascending, goodProviders, goodAspa, goodUpdate, sensibleAsns, soundAsns, sensibleProviders, sensibleAspa, sensibleUpdate}
+use Rattle.field.specs.Progress.{Leaves}
+use Rattle.field.proofs.Ascent.{senseless-none}
+use Rattle.field.proofs.Sizes.{both}
 
 -- a part that goes to the end, as `&b[k..]`
 to-end : (b : List ℕ) (k : ℕ) → take (length b - k) (drop k b) ≡ drop k b
@@ -96,10 +99,24 @@ module _ (b : List ℕ) (c : Asn) (t : Bool) (e : t ≡ leb (length b / 4) 4_096
   unfolding goodProviders
   sound-unsized n = rw (← e, not-true t n)
 
-  pub sound-rest : (r : Bool) → not t ≡ false → r ≡ ascending (asns b) && sensibleAsns (c .0) (asns b)
-      → r ≡ goodProviders b && sensibleAsns (c .0) (asns b)
-  unfolding goodProviders
-  sound-rest r n q = rw (← e, not-false t n) q
+  module _ (n : not t ≡ false) where
+    pub sound-whole : length b % 4 ≡ 0
+    sound-whole = eqb-true (length b % 4) 0 (both (leb (length b / 4) 4_096) _ (sym e ∙ not-false t n) .1)
+
+    pub sound-four : (length b ≡ 0 → ⊥) → 4 ≤ length b
+    sound-four z = let w = sound-whole in omega arith
+
+    pub sound-rest : (l : ℕ) → Leaves l (soundAsns (c .0) (asns b))
+        → eqb l 0 ≡ goodProviders b && sensibleAsns (c .0) (asns b)
+    unfolding goodProviders soundAsns
+    sound-rest l q = rw (← e, not-false t n) (go l q)
+      where
+        go : (k : ℕ) → Leaves k (soundAsns (c .0) (asns b)) → eqb k 0 ≡ soundAsns (c .0) (asns b)
+        go zero p = eq-eqb 0 0 refl ∙ p .none refl
+        go (suc k) p = let z : suc k ≡ 0 → ⊥ = λ y. omega arith in ne-eqb (suc k) 0 z ∙ p .some z
+
+pub sound-empty : (b : List ℕ) (c : Asn) → length b ≡ 0 → false ≡ goodProviders b && sensibleAsns (c .0) (asns b)
+sound-empty b c e = senseless-none b (c .0) (goodProviders b) (omega arith)
 
 module _ (b : List ℕ) where
   pub sound-short : length b < 4 → false ≡ goodAspa b && sensibleAspa b
@@ -139,4 +156,4 @@ module _ (b : List ℕ) where
           → v ≡ goodUpdate b && sensibleUpdate b
       sound-update t v w = rw (lists, not-false r t) (rw (d, to-end b (6 + n * 4)) at w)
 
-pub ruleset sound-bodies = (sound-unsized, sound-rest, sound-short, sound-aspa, sound-brief, sound-cut, sound-former, sound-update)
+pub ruleset sound-bodies = (sound-unsized, sound-empty, sound-four, sound-whole, sound-rest, sound-short, sound-aspa, sound-brief, sound-cut, sound-former, sound-update)

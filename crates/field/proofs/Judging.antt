@@ -13,13 +13,18 @@ use Rattle.field.specs.declared.head.Field.{Field}
 use Rattle.field.specs.declared.head.Field.the-variants.{End, Cut, Whole}
 use Rattle.field.specs.declared.key.Key.{Key}
 use Rattle.field.specs.declared.tag.Form.{Form}
+use Rattle.field.specs.declared.tag.Action.{Action}
+use Rattle.field.specs.declared.tag.Tag.{Tag}
+use Rattle.field.specs.declared.tag.Tag.the-variants.{Unknown, Origin, RouterKey, Aspa}
 use Rattle.field.specs.declared.verdict.Verdict.{Verdict}
 use Rattle.field.specs.declared.verdict.Verdict.the-variants.{Fine, Bad, Senseless, NotAbove}
-use Rattle.field.specs.Tag.{goodBody, sensible, sound, kindOf}
+use Rattle.field.specs.Origin.{goodOrigin}
+use Rattle.field.specs.RouterKey.{goodRouterKey}
+use Rattle.field.specs.Tag.{tagOf, goodAspaBody, goodBody, sensible, sound, kindOf}
 use Rattle.field.specs.Head.{front}
 use Rattle.field.specs.Verdict.{judge, verdictF, verdict}
 use Rattle.field.specs.Places.{part, fieldAt, keyIn, keyPlace}
-use Rattle.field.specs.Progress.{refusedAt}
+use Rattle.field.specs.Progress.{refusedAt, Refuses}
 pub use Rattle.field.specs.Progress.{Judged}
 use Rattle.field.proofs.Fields.{end-at, cut-at, whole-at, body-ordered, body-within, field-less}
 use Rattle.field.proofs.Keys.{key-in}
@@ -57,11 +62,11 @@ module _ (form : Form) (s : List ℕ) (at : ℕ) (k : Key) (j : Judged form s at
 
     module _ (tag from to : ℕ) (e : r ≡ Whole tag from to) (b : Bool) (g : b ≡ sound form tag (part s from to)) where
       -- not both good and sensible
-      pub judged-refused : not b ≡ true → (v : Verdict) → v ≡ refusedAt (goodBody form tag (part s from to)) at → v ≡ verdict form s
+      pub judged-refused : not b ≡ true → (v : Verdict) → Refuses form tag (part s from to) at v → v ≡ verdict form s
       unfolding judge sound
       judged-refused t v w =
           let x = whole-at s at r f tag from to e in
-          w ∙ go (goodBody form tag (part s from to)) (sensible form tag (part s from to)) _ (sym (not-true b t) ∙ g) ∙ (rw (x .reads) at (turn .2))
+          w .is (sym g ∙ not-true b t) ∙ go (goodBody form tag (part s from to)) (sensible form tag (part s from to)) _ (sym (not-true b t) ∙ g) ∙ (rw (x .reads) at (turn .2))
         where
           go : (c d : Bool) (y : Verdict) → false ≡ c && d → refusedAt c at ≡ cond c (cond d y (Senseless at)) (Bad at)
           go true true y q = cc
@@ -108,13 +113,36 @@ module _ (form : Form) (s : List ℕ) (at : ℕ) (k : Key) (j : Judged form s at
 
 -- ---- refused
 
-module _ (form : Form) (tag : ℕ) (b : List ℕ) (at : ℕ) (v : Bool) (e : v ≡ goodBody form tag b) where
-  pub refused-senseless : v ≡ true → Senseless at ≡ refusedAt (goodBody form tag b) at
+module _ (action : Action) (b : List ℕ) (at : ℕ) (v : Bool) (e : v ≡ goodAspaBody action b) where
+  pub refused-senseless : v ≡ true → Senseless at ≡ refusedAt (goodAspaBody action b) at
   refused-senseless d = rw (← e, d)
 
-  pub refused-bad : v ≡ false → Bad at ≡ refusedAt (goodBody form tag b) at
+  pub refused-bad : v ≡ false → Bad at ≡ refusedAt (goodAspaBody action b) at
   refused-bad d = rw (← e, d)
 
-pub ruleset refusing = (refused-senseless, refused-bad)
+-- what is not sound, and sensible, is not good
+alone : (g : Bool) → g && true ≡ false → g ≡ false
+alone true e = e
+alone false e = refl
+
+module _ (form : Form) (tag : ℕ) (b : List ℕ) (at : ℕ) (t : Tag) (e : t ≡ tagOf form tag) where
+  pub refused-unknown : t ≡ Unknown → Refuses form tag b at (Bad at)
+  unfolding goodBody
+  refused-unknown d = record { is = λ n. rw (← e, d) }
+
+  module _ (action : Action) where
+    pub refused-origin : t ≡ Origin action → Refuses form tag b at (Bad at)
+    unfolding sound sensible goodBody
+    refused-origin d = record { is = λ n. let z : goodOrigin b ≡ false = alone (goodOrigin b) (rw (← e, d) at n) in rw (← e, d, z) }
+
+    pub refused-key : t ≡ RouterKey action → Refuses form tag b at (Bad at)
+    unfolding sound sensible goodBody
+    refused-key d = record { is = λ n. let z : goodRouterKey b ≡ false = alone (goodRouterKey b) (rw (← e, d) at n) in rw (← e, d, z) }
+
+    pub refused-aspa : (v : Verdict) → t ≡ Aspa action → v ≡ refusedAt (goodAspaBody action b) at → Refuses form tag b at v
+    unfolding goodBody
+    refused-aspa v d q = record { is = λ n. rw (← e, d) q }
+
+pub ruleset refusing = (refused-senseless, refused-bad, refused-unknown, refused-origin, refused-key, refused-aspa)
 
 pub ruleset judging = (judged-start, judged-end, judged-cut, judged-refused, judged-equal, judged-greater, judged-next, field-less, body-ordered, body-within)

@@ -45,10 +45,6 @@ module _ (form : Form) (tag : ℕ) (t : Tag) (e : t ≡ tagOf form tag) where
   unfolding kindOf
   kind-unknown d = rw (← e, d)
 
-  pub body-unknown : (b : List ℕ) → t ≡ Unknown → false ≡ goodBody form tag b
-  unfolding goodBody
-  body-unknown b d = rw (← e, d)
-
   module _ (action : Action) where
     pub kind-origin : t ≡ Origin action → 1 ≡ kindOf form tag
     unfolding kindOf
@@ -61,19 +57,6 @@ module _ (form : Form) (tag : ℕ) (t : Tag) (e : t ≡ tagOf form tag) where
     pub kind-aspa : t ≡ Aspa action → 3 ≡ kindOf form tag
     unfolding kindOf
     kind-aspa d = rw (← e, d)
-
-    module _ (b : List ℕ) (r : Bool) where
-      pub body-origin : t ≡ Origin action → r ≡ goodOrigin b → r ≡ goodBody form tag b
-      unfolding goodBody
-      body-origin d q = rw (← e, d, q)
-
-      pub body-key : t ≡ RouterKey action → r ≡ goodRouterKey b → r ≡ goodBody form tag b
-      unfolding goodBody
-      body-key d q = rw (← e, d, q)
-
-      pub body-aspa : t ≡ Aspa action → r ≡ goodAspaBody action b → r ≡ goodBody form tag b
-      unfolding goodBody
-      body-aspa d q = rw (← e, d, q)
 
 module _ (action : Action) (b : List ℕ) (r : Bool) where
   pub aspa-held : action ≡ Hold → r ≡ goodAspa b → r ≡ goodAspaBody action b
@@ -88,7 +71,7 @@ module _ (action : Action) (b : List ℕ) (r : Bool) where
   pub aspa-updated : action ≡ Update → r ≡ goodUpdate b → r ≡ goodAspaBody action b
   aspa-updated d q = rw (d, q)
 
-pub ruleset tags = (tag-item, tag-change, kind-unknown, kind-origin, kind-key, kind-aspa, body-unknown, body-origin, body-key, body-aspa, aspa-held, aspa-announced, aspa-withdrawn, aspa-updated)
+pub ruleset tags = (tag-item, tag-change, kind-unknown, kind-origin, kind-key, kind-aspa, aspa-held, aspa-announced, aspa-withdrawn, aspa-updated)
 
 -- ---- bodies that make sense too
 

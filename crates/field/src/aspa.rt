@@ -6,10 +6,11 @@ use order::Ordering;
 use serial::Asn;
 ghost use mathlib.Core.Path.{_≡_};
 ghost use mathlib.Core.Bool.{_&&_};
-ghost use Prim.Native.Nat.{_/_, _%_};
+ghost use Prim.Native.Nat.{_/_, _%_, _≤_};
 ghost use lib.Dec.{leb, eqb};
 ghost use lib.ListN.{length};
-ghost use Rattle.field.specs.Aspa.{asns, ascending, goodProviders, goodAspa, goodUpdate, sensibleAsns, sensibleAspa, sensibleUpdate};
+ghost use Rattle.field.specs.Aspa.{asns, ascending, goodProviders, goodAspa, goodUpdate, sensibleAsns, soundAsns, sensibleAspa, sensibleUpdate};
+ghost use Rattle.field.specs.Progress.{Leaves};
 
 // Whether each AS number is above the one before it.
 fn ascending_asns(s: &[u8]) -> bool
@@ -82,30 +83,29 @@ pub fn update_ok(body: &[u8]) -> bool
     providers_ok(&body[end..])
 }
 
-// Whether there is an AS number, each is above the one before it, and none is the customer.
-fn sound_asns(customer: Asn, s: &[u8]) -> bool
-    ensures { λ r. ⌜ r ≡ ascending (asns (now (s .entry))) && sensibleAsns (customer .0) (asns (now (s .entry))) ⌝ }
+// How many bytes are left where a list stops to be sound: at an AS number that is not above the one before it, or that is
+// the customer. 0 if there is none. (As a number: two tests for one bool would be joined, and cost more than two jumps.)
+fn unsound_asns(customer: Asn, s: &[u8]) -> usize
+    requires { ⌜ (4 ≤ length (now s)) × (length (now s) % 4 ≡ 0) ⌝ }
+    ensures { λ r. ⌜ Leaves r (soundAsns (customer .0) (asns (now (s .entry)))) ⌝ }
 {
-    if s.len() < 4 {
-        return false;
-    }
     let mut before = asn_at(s, 0);
     if before.0 == customer.0 {
-        return false;
+        return s.len();
     }
-    let mut i = 4;
-    while 4 <= s.len() - i {
-        let asn = asn_at(s, i);
+    let mut left = s.len() - 4;
+    while left != 0 {
+        let asn = asn_at(s, s.len() - left);
         if asn.0 <= before.0 {
-            return false;
+            return left;
         }
         if asn.0 == customer.0 {
-            return false;
+            return left;
         }
         before = asn;
-        i += 4;
+        left -= 4;
     }
-    true
+    left
 }
 
 // Whether this is a list of providers that makes sense for the customer.
@@ -115,7 +115,10 @@ fn providers_sound(customer: Asn, s: &[u8]) -> bool
     if !sized(s) {
         return false;
     }
-    sound_asns(customer, s)
+    if s.len() == 0 {
+        return false;
+    }
+    unsound_asns(customer, s) == 0
 }
 
 // Whether this is the body of an ASPA that makes sense.

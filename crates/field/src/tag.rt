@@ -7,7 +7,7 @@ use crate::origin::origin_ok;
 use crate::router_key::router_key_ok;
 ghost use mathlib.Core.Path.{_≡_};
 ghost use mathlib.Core.Bool.{_&&_};
-ghost use Rattle.field.specs.Tag.{itemTag, changeTag, tagOf, kindOf, goodAspaBody, goodBody, sensibleAspaBody, sound};
+ghost use Rattle.field.specs.Tag.{itemTag, changeTag, tagOf, kindOf, goodAspaBody, sensibleAspaBody, sound};
 
 // The runs of fields that there are.
 pub enum Form {
@@ -82,7 +82,7 @@ pub fn kind_of(form: Form, tag: u8) -> u8
 }
 
 // Whether the body of an ASPA's field keeps to its rule.
-fn aspa_body_ok(action: Action, body: &[u8]) -> bool
+pub(crate) fn aspa_body_ok(action: Action, body: &[u8]) -> bool
     ensures { λ r. ⌜ r ≡ goodAspaBody action (now (body .entry)) ⌝ }
 {
     match action {
@@ -90,18 +90,6 @@ fn aspa_body_ok(action: Action, body: &[u8]) -> bool
         Action::Announce => aspa_ok(body),
         Action::Withdraw => aspa_ok(body),
         Action::Update => update_ok(body),
-    }
-}
-
-// Whether the tag is known and the body keeps to its rule.
-pub fn body_ok(form: Form, tag: u8, body: &[u8]) -> bool
-    ensures { λ r. ⌜ r ≡ goodBody form tag (now (body .entry)) ⌝ }
-{
-    match tag_of(form, tag) {
-        Tag::Unknown => false,
-        Tag::Origin(_) => origin_ok(body),
-        Tag::RouterKey(_) => router_key_ok(body),
-        Tag::Aspa(action) => aspa_body_ok(action, body),
     }
 }
 

@@ -5,19 +5,22 @@ use crate::key::Key;
 use crate::key::key_at;
 use crate::key::key_compare;
 use crate::number::four_at;
+use crate::tag::Action;
 use crate::tag::Form;
-use crate::tag::body_ok;
+use crate::tag::Tag;
+use crate::tag::aspa_body_ok;
 use crate::tag::body_sound;
 use crate::tag::kind_of;
+use crate::tag::tag_of;
 use crate::words::next_words;
 use crate::words::words_at;
 use order::Ordering;
 ghost use mathlib.Core.Path.{_≡_};
 ghost use Prim.Native.Nat.{_+_, _-_, _≤_};
 ghost use Rattle.field.specs.Places.{keyPlace};
-ghost use Rattle.field.specs.Tag.{goodBody};
+ghost use Rattle.field.specs.Tag.{goodAspaBody};
 ghost use Rattle.field.specs.Verdict.{verdict};
-ghost use Rattle.field.specs.Progress.{Judged, standBehind, refusedAt, Reaches, Further};
+ghost use Rattle.field.specs.Progress.{Judged, standBehind, refusedAt, Refuses, Reaches, Further};
 
 // What the check finds: nothing, or the first bad field, by its offset.
 pub enum Verdict {
@@ -137,14 +140,26 @@ fn pass(form: Form, s: &[u8], at: usize, before: Key) -> Stand
     pass_origins(form, s, at)
 }
 
-// The refusal of the field at `at`, whose body breaks its rule or makes no sense.
-fn refused(form: Form, tag: u8, body: &[u8], at: usize) -> Verdict
-    ensures { λ r. ⌜ r ≡ refusedAt (goodBody form tag (now (body .entry))) at ⌝ }
+// The refusal of an ASPA's field at `at`, whose body breaks its rule or makes no sense.
+fn refused_aspa(action: Action, body: &[u8], at: usize) -> Verdict
+    ensures { λ r. ⌜ r ≡ refusedAt (goodAspaBody action (now (body .entry))) at ⌝ }
 {
-    if body_ok(form, tag, body) {
+    if aspa_body_ok(action, body) {
         return Verdict::Senseless { at };
     }
     Verdict::Bad { at }
+}
+
+// The refusal of the field at `at`, whose body breaks its rule or makes no sense.
+fn refused(form: Form, tag: u8, body: &[u8], at: usize) -> Verdict
+    ensures { λ r. ⌜ Refuses form tag (now (body .entry)) at r ⌝ }
+{
+    match tag_of(form, tag) {
+        Tag::Unknown => Verdict::Bad { at },
+        Tag::Origin(_) => Verdict::Bad { at },
+        Tag::RouterKey(_) => Verdict::Bad { at },
+        Tag::Aspa(action) => refused_aspa(action, body, at),
+    }
 }
 
 // The check of a snapshot or a delta.
