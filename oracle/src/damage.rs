@@ -198,6 +198,15 @@ pub fn damage(rng: &mut Rng, form: Form, bytes: &[u8]) -> (&'static str, Vec<u8>
     (name, fields.concat())
 }
 
+/// Makes an ASPA of good bytes senseless, if there is one.
+pub fn damage_sense(rng: &mut Rng, form: Form, bytes: &[u8]) -> Vec<u8> {
+    let mut fields: Fields = pieces(bytes).into_iter().map(<[u8]>::to_vec).collect();
+    let name = *rng.pick(&["no providers", "a customer among its providers"]);
+    let (_, damage) = DAMAGES.iter().find(|(n, _)| *n == name).expect("one of the damages");
+    damage(rng, form, &mut fields);
+    fields.concat()
+}
+
 fn some_index(rng: &mut Rng, fields: &Fields, which: fn(&Vec<u8>) -> bool) -> Option<usize> {
     let found: Vec<usize> = (0..fields.len()).filter(|&i| which(&fields[i])).collect();
     (!found.is_empty()).then(|| *rng.pick(&found))
