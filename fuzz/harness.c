@@ -40,7 +40,7 @@ static void note(unsigned entry, const taplevung_answer *a)
 {
     unsigned h = entry;
     h = h * 5 + a->kind;
-    h = h * 11 + a->number;
+    h = h * 13 + a->number;
     h = h * 3 + a->argument;
     h = h * 13 + size_class(a->offset);
     h = h * 17 + size_class(a->length);
@@ -142,13 +142,18 @@ static size_t room(struct input *in, uint32_t places)
     return length % (places & 8 ? length >> 31 ? ARENA / 8 : 4096 : 128);
 }
 
-/* An ascending list of providers: a few, or as many as there may be and a little more. */
+/* An ascending list of providers: a few, or as many as there may be and a little more. Three in four are above all
+ * customers, and not empty. */
 static size_t put_list(struct input *in, uint8_t *to, int *long_lists)
 {
     uint32_t shape = u8(in), count = shape & 7, step = 1 + (shape >> 3 & 1), from = shape >> 4 & 3;
     if (shape >= 0xfc && *long_lists > 0) {
         count = 4094 + (shape & 3);
         (*long_lists)--;
+    }
+    if (shape < 0xc0) {
+        count += count == 0;
+        from += 8;
     }
     for (uint32_t i = 0; i < count; i++) {
         uint32_t provider = from + i * step;
@@ -275,7 +280,7 @@ static int counted(const taplevung_answer *a, const uint8_t *p)
     return a->announced == announced && a->withdrawn == withdrawn;
 }
 
-/* Checks the first two slices; 1 if the answer is refusal 1 or 2, as it must be. */
+/* Checks the first two slices; 1 if the answer is refusal 1, 12 or 2, as it must be. */
 static int bad_input(const taplevung_answer *a, struct slice first, enum form f, struct slice second, enum form g)
 {
     struct verdict v = check(f, first.bytes, first.length);
@@ -285,7 +290,7 @@ static int bad_input(const taplevung_answer *a, struct slice first, enum form f,
         argument = 2;
     }
     if (v.number == 0) {
-        LAW(a->kind != 0 || (a->number != 1 && a->number != 2));
+        LAW(a->kind != 0 || (a->number != 1 && a->number != 12 && a->number != 2));
         return 0;
     }
     LAW(refused_with(a, v.number, argument, v.offset));

@@ -1,5 +1,5 @@
 /*
- * Document 01's rules once more, in C: what is good, what a well-formed history is, difference,
+ * Document 01's rules and those of the requests once more, in C: what is good, what a well-formed history is, difference,
  * merge, application and the times. The library is held to these.
  */
 #ifndef RULES_H
@@ -12,7 +12,7 @@
 enum form { SNAPSHOT, DELTA };
 
 struct verdict {
-    uint32_t number; /* 0 good, 1 or 2 refused */
+    uint32_t number; /* 0 good, 1, 12 or 2 refused */
     size_t offset;
 };
 
@@ -70,6 +70,26 @@ static int good_body(enum form form, uint8_t tag, const uint8_t *p, size_t n)
     }
 }
 
+/* Of a list of providers that is good by itself. */
+static int sensible_list(const uint8_t *customer, const uint8_t *p, size_t n)
+{
+    for (size_t i = 0; i < n; i += 4)
+        if (memcmp(customer, p + i, 4) == 0)
+            return 0;
+    return n > 0;
+}
+
+/* Of a good body. */
+static int sensible(enum form form, uint8_t tag, const uint8_t *p, size_t n)
+{
+    if ((form == SNAPSHOT ? tag : tag >> 4) != 3)
+        return 1;
+    if (form == SNAPSHOT || (tag & 15) != 3)
+        return sensible_list(p, p + 4, n - 4);
+    size_t former = 4 * ((size_t)p[4] << 8 | p[5]);
+    return sensible_list(p, p + 6, former) && sensible_list(p, p + 6 + former, n - 6 - former);
+}
+
 static struct verdict check(enum form form, const uint8_t *p, size_t n)
 {
     struct verdict fine = {0, 0};
@@ -83,6 +103,10 @@ static struct verdict check(enum form form, const uint8_t *p, size_t n)
         size_t body = (size_t)p[at + 1] << 8 | p[at + 2];
         if (n - at - 3 < body || !good_body(form, p[at], p + at + 3, body))
             return bad;
+        if (!sensible(form, p[at], p + at + 3, body)) {
+            bad.number = 12;
+            return bad;
+        }
         unsigned kind = form == SNAPSHOT ? p[at] : p[at] >> 4;
         size_t key = kind == 3 ? 4 : body;
         if (last && (kind < last_kind ||

@@ -59,7 +59,8 @@ enum {
     TAPLEVUNG_ILL_FORMED = 7,    /* the state and the stores are no history */
     TAPLEVUNG_BAD_KEEP = 8,      /* a history keeps 1 to 64 deltas */
     TAPLEVUNG_STORE_FULL = 9,    /* the snapshot, or the deltas to be held, exceed their store */
-    TAPLEVUNG_TOO_LONG = 10      /* an input, or a store at creation, is over its limit */
+    TAPLEVUNG_TOO_LONG = 10,     /* an input, or a store at creation, is over its limit */
+    TAPLEVUNG_SENSELESS = 12     /* an ASPA has no providers, or names its customer among them */
 };
 
 /* The serial of a snapshot. After 4,294,967,295 comes 0. */
@@ -92,9 +93,9 @@ typedef struct {
 typedef struct {
     uint32_t kind;           /* refused, or what was done */
     uint32_t number;         /* a refusal's number, else 0 */
-    uint32_t argument;       /* which argument is at fault, 1 or 2, for nos. 1, 2, 3, 10; else 0 */
+    uint32_t argument;       /* which argument is at fault, 1 or 2, for nos. 1, 2, 3, 10, 12; else 0 */
     taplevung_serial serial;
-    uint64_t offset;         /* where in that argument the field starts, for nos. 1, 2, 3; else 0 */
+    uint64_t offset;         /* where in that argument the field starts, for nos. 1, 2, 3, 12; else 0 */
     uint64_t length;
     uint64_t announced;      /* items of a delta that announce or update */
     uint64_t withdrawn;      /* items of a delta that withdraw */
@@ -128,7 +129,7 @@ typedef struct {
  *
  * TAPLEVUNG_DELTA: serial is old_serial plus 1; length, announced and withdrawn are the
  * delta's. TAPLEVUNG_NO_CHANGE: every other number is 0 and nothing is written.
- * Refusals: 10, then 1 and 2 (argument 1 the old snapshot, 2 the new one), then 4.
+ * Refusals: 10, then 1, 12 and 2 (argument 1 the old snapshot, 2 the new one), then 4.
  */
 taplevung_answer taplevung_construct(
     const uint8_t *old_snapshot, size_t old_length,
@@ -141,7 +142,7 @@ taplevung_answer taplevung_construct(
  *
  * TAPLEVUNG_DONE: serial is later_serial; length, announced and withdrawn are those of
  * the delta written, which may be empty.
- * Refusals: 10, then 1 and 2 (argument 1 the earlier delta, 2 the later one), then 4.
+ * Refusals: 10, then 1, 12 and 2 (argument 1 the earlier delta, 2 the later one), then 4.
  */
 taplevung_answer taplevung_merge(
     const uint8_t *earlier, size_t earlier_length,
@@ -153,7 +154,7 @@ taplevung_answer taplevung_merge(
  * Writes the snapshot that a delta makes of a snapshot.
  *
  * TAPLEVUNG_DONE: length is that of the snapshot written; every other number is 0.
- * Refusals: 10, then 1 and 2 (argument 1 the snapshot, 2 the delta), then 3 (argument 2,
+ * Refusals: 10, then 1, 12 and 2 (argument 1 the snapshot, 2 the delta), then 3 (argument 2,
  * the first item that cannot be applied), then 4.
  */
 taplevung_answer taplevung_apply(
@@ -185,7 +186,7 @@ taplevung_made taplevung_create(
  * length, announced and withdrawn are those of the delta that was added, else 0. `state`
  * is the history from now on. Unchanged or refused: `state` is the one that was given
  * and both stores are as they were.
- * Refusals: 7, then 10, 1 and 2 (argument 1, the new snapshot), then 9.
+ * Refusals: 7, then 10, 1, 12 and 2 (argument 1, the new snapshot), then 9.
  */
 taplevung_made taplevung_update(
     taplevung_state state,

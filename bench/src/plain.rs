@@ -10,7 +10,7 @@ pub fn check(delta: bool, bytes: &[u8]) -> Result<(), usize> {
         let key = match (kind, action) {
             (1, 1 | 2) if good_origin(body) => body,
             (2, 1 | 2) if (24..=1048).contains(&body.len()) => body,
-            (3, 1 | 2) if body.len() >= 4 && good_providers(&body[4..]) => &body[..4],
+            (3, 1 | 2) if body.len() >= 4 && good_providers(body, &body[4..]) => &body[..4],
             (3, 3) if good_update(body) => &body[..4],
             _ => return Err(at),
         };
@@ -40,16 +40,18 @@ fn good_origin(body: &[u8]) -> bool {
     prefix <= max && max <= bound && address.checked_shl(prefix.into()).unwrap_or(0) == 0
 }
 
-fn good_providers(list: &[u8]) -> bool {
+/// Of a body's customer.
+fn good_providers(body: &[u8], list: &[u8]) -> bool {
     let numbers = list.chunks_exact(4);
     let whole = numbers.remainder().is_empty() && numbers.len() <= 4096;
     let number = |n: &[u8]| u32::from_be_bytes(n.try_into().expect("4 bytes"));
-    whole && numbers.clone().zip(numbers.skip(1)).all(|(a, b)| number(a) < number(b))
+    let sensible = numbers.len() > 0 && numbers.clone().all(|n| *n != body[..4]);
+    whole && sensible && numbers.clone().zip(numbers.skip(1)).all(|(a, b)| number(a) < number(b))
 }
 
 fn good_update(body: &[u8]) -> bool {
     let [_, _, _, _, high, low, lists @ ..] = body else { return false };
     let former = 4 * usize::from(u16::from_be_bytes([*high, *low]));
     let Some((former, new)) = lists.split_at_checked(former) else { return false };
-    good_providers(former) && good_providers(new)
+    good_providers(body, former) && good_providers(body, new)
 }

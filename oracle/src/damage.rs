@@ -64,9 +64,7 @@ pub const DAMAGES: &[(&str, Damage)] = &[
         // with other providers: the key alone decides
         if let Some(at) = fields.iter().position(|f| matches!(f[0], 0x03 | 0x31 | 0x32)) {
             let mut field = fields[at][..7].to_vec();
-            if rng.one_in(2) {
-                field.extend([0, 0, 0, 9]);
-            }
+            field.extend([0, 0, 0, *rng.pick(&[8, 9])]);
             fix(&mut field);
             fields.insert(at + rng.below(2), field);
         }
@@ -147,6 +145,15 @@ pub const DAMAGES: &[(&str, Damage)] = &[
             }
         }
     }),
+    ("no providers", |rng, _, fields| senseless(rng, fields, |_, _| vec![])),
+    ("a customer among its providers", |rng, _, fields| {
+        senseless(rng, fields, |customer, list| {
+            let mut all: Vec<&[u8]> = list.chunks_exact(4).collect();
+            let at = all.partition_point(|p| *p < customer);
+            all.insert(at, customer);
+            all.concat()
+        });
+    }),
     ("a count", |rng, _, fields| {
         if let Some(at) = some_index(rng, fields, |f| f[0] == 0x33) {
             let field = &mut fields[at];
@@ -191,6 +198,15 @@ pub fn damage(rng: &mut Rng, form: Form, bytes: &[u8]) -> (&'static str, Vec<u8>
     (name, fields.concat())
 }
 
+/// Makes an ASPA of good bytes senseless, if there is one.
+pub fn damage_sense(rng: &mut Rng, form: Form, bytes: &[u8]) -> Vec<u8> {
+    let mut fields: Fields = pieces(bytes).into_iter().map(<[u8]>::to_vec).collect();
+    let name = *rng.pick(&["no providers", "a customer among its providers"]);
+    let (_, damage) = DAMAGES.iter().find(|(n, _)| *n == name).expect("one of the damages");
+    damage(rng, form, &mut fields);
+    fields.concat()
+}
+
 fn some_index(rng: &mut Rng, fields: &Fields, which: fn(&Vec<u8>) -> bool) -> Option<usize> {
     let found: Vec<usize> = (0..fields.len()).filter(|&i| which(&fields[i])).collect();
     (!found.is_empty()).then(|| *rng.pick(&found))
@@ -206,6 +222,26 @@ fn at_any_byte(rng: &mut Rng, fields: &mut Fields, change: fn(&mut Rng, &mut u8)
         let at = rng.below(field.len());
         change(rng, &mut field[at]);
     }
+}
+
+/// Puts another list in place of an ASPA's providers, of an update's former or new ones, by the customer and the list.
+fn senseless(rng: &mut Rng, fields: &mut Fields, other: fn(&[u8], &[u8]) -> Vec<u8>) {
+    let Some(at) = some_index(rng, fields, |f| matches!(f[0], 0x03 | 0x31..=0x33)) else { return };
+    let field = &mut fields[at];
+    if field[0] != 0x33 {
+        let list = other(&field[3..7], &field[7..]);
+        field.truncate(7);
+        field.extend(list);
+    } else {
+        let (customer, former, new) = split_update(&field[3..]);
+        let (former, new) = match rng.below(2) {
+            0 => (other(customer, former), new.to_vec()),
+            _ => (former.to_vec(), other(customer, new)),
+        };
+        let count = ((former.len() / 4) as u16).to_be_bytes();
+        *field = [&[0x33, 0, 0], customer, &count, &former, &new].concat();
+    }
+    fix(field);
 }
 
 /// Writes the length that the body has.

@@ -414,7 +414,7 @@ impl Run {
             _ => World::new(rng, &universe).update(hurt(rng, s, new, &[0, 1, 2, 3, 4])),
         };
         let outcome = self.compare(&call)?;
-        if matches!(outcome.answer.number, 1 | 2) {
+        if matches!(outcome.answer.number, 1 | 2 | 12) {
             names.into_iter().for_each(|name| *self.damages.entry(name).or_default() += 1);
         }
         Ok(())
@@ -511,10 +511,10 @@ impl Run {
         self.compare(&Call::full(State { active: 1, ..inactive }, over(snap), vec![]))?;
 
         // good bytes of exactly the greatest length, and what is made of them
-        let (old, new) = (longest(3, snap, 0), longest(3, snap, 1));
+        let (old, new) = (longest(3, snap, 5000), longest(3, snap, 5001));
         let made = answered(self.compare(&Call::construct(old.clone(), new.clone(), 5, vec![0; delta]))?);
         self.compare(&Call::apply(old.clone(), made.clone(), vec![0; snap]))?;
-        let (withdraw, announce) = (longest(0x32, delta, 0), longest(0x31, delta, 1));
+        let (withdraw, announce) = (longest(0x32, delta, 5000), longest(0x31, delta, 5001));
         self.compare(&Call::merge(withdraw, announce, 5, vec![0; 2 * delta]))?;
         let first = self.compare(&Call::update(inactive, old, vec![0; snap], vec![0; made.len()]))?;
         let [_, snapshots, deltas] = first.bytes;
@@ -539,7 +539,7 @@ impl Run {
         }
         use Entry::*;
         for entry in [Construct, Merge, Apply] {
-            for (number, argument) in [(1, 1), (1, 2), (2, 1), (2, 2), (4, 0)] {
+            for (number, argument) in [(1, 1), (1, 2), (2, 1), (2, 2), (12, 1), (12, 2), (4, 0)] {
                 let met = self.refusals.get(&(entry, number, argument));
                 enough(format!("refusal {number}, argument {argument} of {entry:?}"), met, 200)?;
             }
@@ -549,6 +549,7 @@ impl Run {
             (Create, 8, 0, 200),
             (Update, 1, 1, 500),
             (Update, 2, 1, 100),
+            (Update, 12, 1, 100),
             (Update, 7, 0, 500),
             (Update, 9, 0, 500),
             (Query, 4, 0, 500),
@@ -605,7 +606,7 @@ fn answered(outcome: Outcome) -> Vec<u8> {
     out
 }
 
-/// ASPA fields of one tag that are `length` bytes together, with providers from `from` on.
+/// ASPA fields of one tag that are `length` bytes together, with providers from `from` on, above all customers.
 fn longest(tag: u8, length: usize, from: u32) -> Vec<u8> {
     let mut out = Vec::with_capacity(length);
     for customer in 0u32.. {

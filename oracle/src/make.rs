@@ -94,13 +94,20 @@ impl Universe {
         Universe { keys, providers: (0..4096).map(|i| i * 7).collect() }
     }
 
-    pub fn providers(&self, rng: &mut Rng) -> Value {
+    /// Providers that make sense for the customer of a key: there is one, and none is the customer.
+    fn providers(&self, rng: &mut Rng, key: &Key) -> Value {
         let mut list: Vec<u32> = match (self.providers.len(), rng.below(4)) {
             // nearly all of a long list, or all
             (4096, 0) => self.providers[rng.below(3)..].to_vec(),
             (4096, 1) => self.providers.clone(),
             _ => self.providers.iter().copied().filter(|_| rng.one_in(3)).collect(),
         };
+        let customer = u32::from_be_bytes(key[1..].try_into().expect("4 bytes"));
+        list.retain(|p| *p != customer);
+        if list.is_empty() {
+            let others: Vec<u32> = self.providers.iter().copied().filter(|p| *p != customer).collect();
+            list.push(if others.is_empty() { customer.wrapping_add(1) } else { *rng.pick(&others) });
+        }
         list.sort();
         list.dedup();
         list.into_iter().flat_map(u32::to_be_bytes).collect()
@@ -108,7 +115,7 @@ impl Universe {
 
     fn value(&self, rng: &mut Rng, key: &Key) -> Value {
         if key[0] == 3 {
-            self.providers(rng)
+            self.providers(rng, key)
         } else {
             vec![]
         }
@@ -153,7 +160,7 @@ impl Universe {
             let value = self.value(rng, key);
             let change = match (key[0], rng.below(3)) {
                 (3, 0) if rng.one_in(4) => Change::Update(value.clone(), value),
-                (3, 0) => Change::Update(value, self.providers(rng)),
+                (3, 0) => Change::Update(value, self.providers(rng, key)),
                 (_, 1) => Change::Announce(value),
                 _ => Change::Withdraw(value),
             };
@@ -177,7 +184,7 @@ impl Universe {
 
 /// Every action on a key of this kind, over four provider lists.
 fn actions(kind: u8) -> Vec<Change> {
-    let lists = [vec![], vec![0, 0, 0, 1], vec![0, 0, 0, 2], vec![0, 0, 0, 1, 0, 0, 0, 2]];
+    let lists = [vec![0, 0, 0, 0], vec![0, 0, 0, 2], vec![0, 0, 0, 3], vec![0, 0, 0, 2, 0, 0, 0, 3]];
     if kind < 3 {
         return vec![Change::Announce(vec![]), Change::Withdraw(vec![])];
     }

@@ -1,4 +1,4 @@
-//! Document 01 as plain functions, written from the document and not from the Rust.
+//! Document 01, and the requests that changed it, as plain functions, written from the documents and not from the Rust.
 //!
 //! A snapshot is a map from keys to values, a delta a map from keys to changes. A key is the kind (1
 //! origin, 2 router key, 3 ASPA) and then the key bytes; the value of an ASPA is its providers, that of
@@ -71,6 +71,16 @@ fn good_body(form: Form, tag: u8, body: &[u8]) -> bool {
     }
 }
 
+/// Request E6: an ASPA has providers, and its customer is none of them; of an update this holds for both lists.
+fn sensible(form: Form, tag: u8, body: &[u8]) -> bool {
+    let providers = |list: &[u8]| !list.is_empty() && list.chunks_exact(4).all(|p| *p != body[..4]);
+    match (form, tag) {
+        (Form::Snapshot, 0x03) | (Form::Delta, 0x31 | 0x32) => providers(&body[4..]),
+        (Form::Delta, 0x33) => providers(split_update(body).1) && providers(split_update(body).2),
+        _ => true,
+    }
+}
+
 /// A checked field: where it starts, its tag, its key and its body.
 pub struct Field<'a> {
     pub offset: usize,
@@ -79,7 +89,7 @@ pub struct Field<'a> {
     pub body: &'a [u8],
 }
 
-/// The fields of good bytes, or refusal 1 or 2: the first bad field, 1 before 2.
+/// The fields of good bytes, or refusal 1, 12 or 2: the first bad field, 1 before 12 before 2.
 pub fn check(form: Form, bytes: &[u8], argument: u32) -> Result<Vec<Field<'_>>, Refused> {
     let mut out: Vec<Field<'_>> = Vec::new();
     let mut offset = 0;
@@ -89,6 +99,9 @@ pub fn check(form: Form, bytes: &[u8], argument: u32) -> Result<Vec<Field<'_>>, 
         let Some(body) = rest.get(..usize::from(u16::from_be_bytes([*high, *low]))) else { return bad };
         if !good_body(form, *tag, body) {
             return bad;
+        }
+        if !sensible(form, *tag, body) {
+            return Err(Refused(12, argument, offset));
         }
         let kind = if form == Form::Snapshot { *tag } else { tag >> 4 };
         let key = [&[kind][..], if kind == 3 { &body[..4] } else { body }].concat();

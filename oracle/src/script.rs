@@ -17,7 +17,7 @@ const SIZE: usize = 65_536;
 /// Bytes longer than this are written as their length and sum.
 const SHOWN: usize = 1024;
 
-/// Refusal 1 or 2 of bytes, or none.
+/// Refusal 1, 12 or 2 of bytes, or none.
 pub type Check = fn(Form, &[u8]) -> Result<(), Refused>;
 
 /// By the model.

@@ -19,7 +19,7 @@ fn by_model(folder: &str) -> String {
 
 #[test]
 fn examples_by_model() {
-    assert!(by_model("examples").lines().count() >= 557);
+    assert!(by_model("examples").lines().count() >= 610);
 }
 
 #[test]

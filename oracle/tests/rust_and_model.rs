@@ -178,11 +178,24 @@ fn what_a_server_is_shown() {
 /// still there.
 #[test]
 fn outside_the_comparison() {
-    let (one, two) = (aspa(1, &[]), aspa(2, &[]));
+    let (one, two) = (aspa(1, &[9]), aspa(2, &[9]));
     let (up, down, twice) = ([&one[..], &two].concat(), [&two[..], &one].concat(), [&one[..], &one].concat());
     assert_eq!(rust::construct(&up, &down, 0), None);
     assert_eq!(difference(&twice, &one)[0], 0x32);
     for bad in [down, twice] {
-        assert_eq!(model::snapshot(&bad, 1), Err::<Snapshot, _>(Refused(2, 1, 7)));
+        assert_eq!(model::snapshot(&bad, 1), Err::<Snapshot, _>(Refused(2, 1, 11)));
+    }
+}
+
+/// ASPAs that make no sense are refused; the Rust takes them.
+#[test]
+fn senseless_aspas() {
+    for (bad, announced) in [
+        (aspa(1, &[]), &b"\x31\x00\x04\x00\x00\x00\x01"[..]),
+        (aspa(1, &[1]), b"\x31\x00\x08\x00\x00\x00\x01\x00\x00\x00\x01"),
+    ] {
+        assert_eq!(difference(b"", &bad), announced);
+        assert_eq!(model::snapshot(&bad, 1), Err(Refused(12, 1, 0)));
+        assert_eq!(model::delta(announced, 2), Err(Refused(12, 2, 0)));
     }
 }

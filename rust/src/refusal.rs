@@ -29,6 +29,8 @@ pub enum Refusal {
     StoreFull,
     /// 10: an input, or a store at creation, is over its limit.
     TooLong { argument: u32 },
+    /// 12: an ASPA has no providers, or names its customer among them.
+    Senseless { argument: u32, offset: u64 },
 }
 
 impl Refusal {
@@ -49,11 +51,12 @@ impl Refusal {
             8 => Refusal::BadKeep,
             9 => Refusal::StoreFull,
             10 => Refusal::TooLong { argument },
+            12 => Refusal::Senseless { argument, offset },
             number => unreachable!("refusal {number}"),
         })
     }
 
-    /// The refusal's number, 1 to 10.
+    /// The refusal's number, 1 to 10 or 12.
     pub fn number(self) -> u32 {
         match self {
             Refusal::BadField { .. } => 1,
@@ -66,6 +69,7 @@ impl Refusal {
             Refusal::BadKeep => 8,
             Refusal::StoreFull => 9,
             Refusal::TooLong { .. } => 10,
+            Refusal::Senseless { .. } => 12,
         }
     }
 
@@ -75,7 +79,8 @@ impl Refusal {
             Refusal::BadField { argument, .. }
             | Refusal::OutOfOrder { argument, .. }
             | Refusal::DoesNotFit { argument, .. }
-            | Refusal::TooLong { argument } => Some(argument),
+            | Refusal::TooLong { argument }
+            | Refusal::Senseless { argument, .. } => Some(argument),
             _ => None,
         }
     }
@@ -85,7 +90,8 @@ impl Refusal {
         match self {
             Refusal::BadField { offset, .. }
             | Refusal::OutOfOrder { offset, .. }
-            | Refusal::DoesNotFit { offset, .. } => Some(offset),
+            | Refusal::DoesNotFit { offset, .. }
+            | Refusal::Senseless { offset, .. } => Some(offset),
             _ => None,
         }
     }
@@ -111,6 +117,10 @@ impl fmt::Display for Refusal {
             Refusal::BadKeep => f.write_str("a history keeps 1 to 64 deltas"),
             Refusal::StoreFull => f.write_str("the snapshot, or the deltas to be held, exceed their store"),
             Refusal::TooLong { argument } => write!(f, "argument {argument} is over its length limit"),
+            Refusal::Senseless { argument, offset } => write!(
+                f,
+                "argument {argument}: the ASPA at {offset} has no providers, or names its customer among them"
+            ),
         }
     }
 }

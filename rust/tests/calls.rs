@@ -44,23 +44,26 @@ fn merging() {
 #[test]
 fn refusals() {
     let good = aspa(3, 1, &[2]);
-    let disorder = [aspa(3, 5, &[]), aspa(3, 4, &[])].concat();
-    let absent = aspa(0x32, 3, &[]);
+    let disorder = [aspa(3, 5, &[2]), aspa(3, 4, &[2])].concat();
+    let absent = aspa(0x32, 3, &[2]);
     let long = vec![0; SNAPSHOT_LIMIT + 1];
     let out = &mut [0; 64][..];
     let history = |keep, snapshots, deltas| History::new(1, keep, snapshots, deltas).unwrap_err();
     let mut small = History::new(70_000, 1, 11, 0).unwrap();
     for (refusal, number, argument, offset) in [
         (construct(&good, b"\x01", Serial(0), out).unwrap_err(), 1, Some(2), Some(0)),
-        (construct(&disorder, b"", Serial(0), out).unwrap_err(), 2, Some(1), Some(7)),
+        (construct(&disorder, b"", Serial(0), out).unwrap_err(), 2, Some(1), Some(11)),
         (apply(&good, &absent, out).unwrap_err(), 3, Some(2), Some(0)),
         (construct(b"", &good, Serial(0), &mut out[..10]).unwrap_err(), 4, None, None),
         (small.query(Session(70_000u32 as u16 + 1), Serial(0), out).unwrap_err(), 5, None, None),
         (small.query(Session(70_000u32 as u16), Serial(1), out).unwrap_err(), 6, None, None),
         (history(0, 0, 0), 8, None, None),
         (history(65, 0, 0), 8, None, None),
-        (small.update(&[&good[..], &aspa(3, 2, &[])].concat()).unwrap_err(), 9, None, None),
+        (small.update(&[&good[..], &aspa(3, 2, &[1])].concat()).unwrap_err(), 9, None, None),
         (construct(b"", &long, Serial(0), out).unwrap_err(), 10, Some(2), None),
+        (construct(&good, &aspa(3, 1, &[]), Serial(0), out).unwrap_err(), 12, Some(2), Some(0)),
+        (merge(&aspa(0x32, 1, &[1]), b"", Serial(0), out).unwrap_err(), 12, Some(1), Some(0)),
+        (small.update(&[&good[..], &aspa(3, 2, &[1, 2])].concat()).unwrap_err(), 12, Some(1), Some(11)),
         (history(1, SNAPSHOT_LIMIT + 1, 0), 10, Some(1), None),
         (history(1, 0, DELTA_LIMIT + 1), 10, Some(2), None),
     ] {
@@ -76,6 +79,11 @@ fn refusals() {
 fn refusal_in_words() {
     let refusal = Refusal::OutOfOrder { argument: 2, offset: 26 };
     assert_eq!(refusal.to_string(), "argument 2: the field at 26 does not stand above the one before it");
+    let refusal = Refusal::Senseless { argument: 1, offset: 0 };
+    assert_eq!(
+        refusal.to_string(),
+        "argument 1: the ASPA at 0 has no providers, or names its customer among them"
+    );
 }
 
 #[test]
@@ -83,7 +91,7 @@ fn a_history() {
     let mut history = History::new(0x1_0002, 2, 100, 100).unwrap();
     assert!(!history.ready());
     assert_eq!(history.full().unwrap().snapshot, b"");
-    let snapshots: Vec<_> = (1..=4).map(|p| aspa(3, 1, &[p])).collect();
+    let snapshots: Vec<_> = (2..=5).map(|p| aspa(3, 1, &[p])).collect();
 
     assert_eq!(history.update(&snapshots[0]), Ok(Updated::First));
     assert!(history.ready());

@@ -13,7 +13,7 @@ use Rattle.field.specs.Verdict.{verdict}
 use Rattle.payload.specs.Content.{Bytes}
 use Rattle.payload.specs.Limit.{limit}
 use Rattle.delta.specs.declared.refusal.Refusal.{Refusal}
-use Rattle.delta.specs.declared.refusal.Refusal.the-variants.{Bad, NotAbove, TooLong}
+use Rattle.delta.specs.declared.refusal.Refusal.the-variants.{Bad, NotAbove, TooLong, Senseless}
 use Rattle.delta.specs.declared.admit.Admitted.{Admitted}
 use Rattle.delta.specs.declared.admit.Admitted.the-variants.{Yes, No}
 use Rattle.delta.specs.Admission.{judgedOf, admitOneOf, admitOf}
@@ -30,6 +30,9 @@ module _ (form : Form) (s : Bytes) (argument : ℕ) (v : Verdict) (e : v ≡ ver
 
   pub judged-bad : (at : ℕ) → v ≡ verdict.Bad at → No (Bad argument at) ≡ judgedOf form s argument
   judged-bad at d = rw (← e, d)
+
+  pub judged-senseless : (at : ℕ) → v ≡ verdict.Senseless at → No (Senseless argument at) ≡ judgedOf form s argument
+  judged-senseless at d = rw (← e, d)
 
   pub judged-low : (at : ℕ) → v ≡ verdict.NotAbove at → No (NotAbove argument at) ≡ judgedOf form s argument
   judged-low at d = rw (← e, d)
@@ -56,4 +59,4 @@ module _ (f : Form) (a : Bytes) (g : Form) (b : Bytes) (t : Bool) (e : t ≡ leb
       pub second-judged : (y : Admitted) → x ≡ Yes → y ≡ judgedOf g b 2 → y ≡ admitOf f a g b
       second-judged y q l = rw (← e, not-false t h, ← d, not-false w k, ← j, q) l
 
-pub ruleset admitting = (limit-snapshot, limit-delta, judged-fine, judged-bad, judged-low, one-long, one-judged, first-long, second-long, first-refused, second-judged)
+pub ruleset admitting = (limit-snapshot, limit-delta, judged-fine, judged-bad, judged-senseless, judged-low, one-long, one-judged, first-long, second-long, first-refused, second-judged)

@@ -69,6 +69,7 @@ limit-yes form s n = go (leb (length s) (limit form)) refl
 judged-yes : (n : ℕ) (v : Verdict) → refusalOf n v ≡ Yes → v ≡ verdict.Fine
 judged-yes n verdict.Fine e = refl
 judged-yes n (verdict.Bad at) e = absurd (let z : _≡_ {A = ℕ} 0 1 = cc in omega arith)
+judged-yes n (verdict.Senseless at) e = absurd (let z : _≡_ {A = ℕ} 0 1 = cc in omega arith)
 judged-yes n (verdict.NotAbove at) e = absurd (let z : _≡_ {A = ℕ} 0 1 = cc in omega arith)
 
 pub admitted-inputs : (f : Form) (a : Bytes) (g : Form) (b : Bytes) → admitOf f a g b ≡ Yes → Inputs f a g b

@@ -51,7 +51,7 @@ tag-known Delta tag b known.updatedAspa = refl
 -- so the tags of good bytes are those of what they say
 tags-run : (form : Form) (test : ℕ → Bool) {k s : Bytes} → Run form k s → countTags test (cells s) ≡ countTags test (map (cellFor form) (entries form s))
 tags-run form test done = rw (entries-end form, cells-end)
-tags-run form test (more {s = s} tag b rest f g l r) =
+tags-run form test (more {s = s} tag b rest f g z l r) =
     rw (entries-more form s tag b rest f, cells-more s tag b rest f)
     (ap₂ (λ (m n : ℕ). m + n) (ap (λ (t : ℕ). cond (test t) 1 0) (sym (tag-known form tag b (known.known form tag b g)))) (tags-run form test r))
 
@@ -96,7 +96,7 @@ taken-tags k (x ∷ D) = ap₂ (λ (t : Bool) (n : ℕ). cond t 1 0 + n) (tag-ta
 
 known-run : (form : Form) {k s : Bytes} → Run form k s → All (λ (c : Cell). Known form (c .tag)) (cells s)
 known-run form done = rw cells-end tt
-known-run form (more {s = s} tag b rest f g l r) = rw (cells-more s tag b rest f) (known.known form tag b g, known-run form r)
+known-run form (more {s = s} tag b rest f g z l r) = rw (cells-more s tag b rest f) (known.known form tag b g, known-run form r)
 
 -- the fields of a snapshot are of three tags
 item-tags : (cs : List Cell) → All (λ (c : Cell). Known Snapshot (c .tag)) cs →

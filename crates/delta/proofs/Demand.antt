@@ -14,7 +14,7 @@ use Rattle.serial.specs.Serial.{nextOf}
 use Rattle.field.specs.declared.tag.Form.{Form}
 use Rattle.field.specs.declared.tag.Form.the-variants.{Snapshot, Delta}
 use Rattle.field.specs.declared.verdict.Verdict.{Verdict}
-use Rattle.field.specs.declared.verdict.Verdict.the-variants.{Fine, Bad, NotAbove}
+use Rattle.field.specs.declared.verdict.Verdict.the-variants.{Fine, Bad, Senseless, NotAbove}
 use Rattle.field.specs.Verdict.{verdict}
 use Rattle.field.specs.Run.{AllBytes}
 use Rattle.payload.specs.Content.{Bytes}
@@ -170,9 +170,11 @@ input-four f a g b r = go (leb (length a) (limit f)) (leb (length b) (limit g)) 
     go false u v w e = other (TooLong 1) e (λ (n : 10 ≡ 4). omega arith)
     go true false v w e = other (TooLong 2) e (λ (n : 10 ≡ 4). omega arith)
     go true true (Bad at) w e = other (refusal.Bad 1 at) e (λ (n : 1 ≡ 4). omega arith)
+    go true true (Senseless at) w e = other (refusal.Senseless 1 at) e (λ (n : 12 ≡ 4). omega arith)
     go true true (NotAbove at) w e = other (refusal.NotAbove 1 at) e (λ (n : 2 ≡ 4). omega arith)
     go true true Fine Fine e = never (cc)
     go true true Fine (Bad at) e = other (refusal.Bad 2 at) e (λ (n : 1 ≡ 4). omega arith)
+    go true true Fine (Senseless at) e = other (refusal.Senseless 2 at) e (λ (n : 12 ≡ 4). omega arith)
     go true true Fine (NotAbove at) e = other (refusal.NotAbove 2 at) e (λ (n : 2 ≡ 4). omega arith)
 
 -- with as much room as two inputs take together, construct never refuses any of them with 4

@@ -1,15 +1,15 @@
--- Worked examples on bytes: a delta that is longer than the difference, two groupings that differ, and a balance.
+-- Worked examples on bytes: a delta that is longer than the difference, two groupings that differ, a balance, and refusal 12.
 use Prim.Native.Nat.{ℕ}
 use mathlib.Core.Path.{_≡_, refl}
 use mathlib.Core.List.{[], _∷_, _++_}
 use lib.ListN.{length, replicate}
 use Rattle.order.specs.Walk.{walk}
 use Rattle.change.specs.Grouping.{Grouping, alone, grouped, leaves, mergeTree}
-use Rattle.field.specs.declared.tag.Form.the-variants.{Delta}
+use Rattle.field.specs.declared.tag.Form.the-variants.{Snapshot, Delta}
 use Rattle.field.specs.declared.verdict.Verdict.the-variants.{Fine}
 use Rattle.field.specs.Origin.{clean, goodPrefix, goodOrigin}
-use Rattle.field.specs.Aspa.{asns, ascending, ascendingFrom, goodProviders, goodAspa, goodUpdate}
-use Rattle.field.specs.Tag.{tagOf, kindOf, goodBody}
+use Rattle.field.specs.Aspa.{asns, ascending, ascendingFrom, goodProviders, goodAspa, goodUpdate, isIn, sensibleAsns, sensibleProviders, sensibleAspa, sensibleUpdate}
+use Rattle.field.specs.Tag.{tagOf, kindOf, goodBody, sensible}
 use Rattle.field.specs.Key.{keyOf}
 use Rattle.field.specs.Head.{front}
 use Rattle.field.specs.Verdict.{judge, verdictF, verdict}
@@ -20,6 +20,9 @@ use Rattle.payload.specs.Count.{announced}
 use Rattle.payload.specs.Payload.{entries, encode}
 use Rattle.walk.specs.declared.fit.Fit.the-variants.{Misfit}
 use Rattle.walk.specs.Fit.{misfit, fitOf}
+use Rattle.delta.specs.declared.refusal.Refusal.the-variants.{Bad, Senseless}
+use Rattle.delta.specs.declared.admit.Admitted.the-variants.{Yes, No}
+use Rattle.delta.specs.Admission.{admitOneOf, admitOf}
 use Rattle.delta.specs.Answer.{differenceOf, mergedOf, appliedOf}
 use Rattle.delta.specs.Shortest.{LeadsTo, tagged}
 
@@ -50,6 +53,10 @@ left = grouped (grouped (alone (origin 0x11)) (alone (origin 0x12))) (alone (ori
 abbrev right : Grouping Bytes
 right = grouped (alone (origin 0x11)) (grouped (alone (origin 0x12)) (alone (origin 0x12)))
 
+-- the same customer's ASPA with no providers, announced and withdrawn
+abbrev bare : ℕ → Bytes
+bare tag = tag ∷ 0 ∷ 4 ∷ customer
+
 pub record Examples : Type 0 where
   -- an update to the providers that are held can be applied and changes nothing: 17 bytes where the difference has none
   idle : LeadsTo (held p) (held p) (updated p p)
@@ -74,9 +81,18 @@ pub record Examples : Type 0 where
   origin-leads : LeadsTo [] (origin 0x01) (origin 0x11)
   origin-brings : tagged 0x11 (origin 0x11) ≡ 1
   origins-after : tagged 0x01 (origin 0x01) ≡ 1
+  -- refusal 12 names the argument and the field; of two arguments the first one's comes first, and 1 before 12 at one field
+  bare-alone : admitOneOf Snapshot (bare 0x03) ≡ No (Senseless 1 0)
+  bare-second : admitOf Snapshot (held p) Delta (origin 0x12 ++ bare 0x32) ≡ No (Senseless 2 26)
+  bare-first : admitOf Delta (bare 0x31) Delta (0x31 ∷ []) ≡ No (Senseless 1 0)
+  own-provider : admitOneOf Snapshot (held customer) ≡ No (Senseless 1 0)
+  own-former : admitOneOf Delta (updated customer q) ≡ No (Senseless 1 0)
+  own-new : admitOneOf Delta (updated p customer) ≡ No (Senseless 1 0)
+  own-sound : admitOneOf Delta (updated p q) ≡ Yes
+  bad-first : admitOneOf Snapshot (0x03 ∷ 0 ∷ 12 ∷ (customer ++ (customer ++ p))) ≡ No (Bad 1 0)
 
 pub examples : Examples
-unfolding verdict verdictF judge front goodBody tagOf kindOf keyOf goodOrigin goodPrefix clean goodAspa goodUpdate goodProviders asns ascending ascendingFrom cells cellsF field run.encode entries encode walk misfit differenceOf mergedOf appliedOf
+unfolding verdict verdictF judge front goodBody tagOf kindOf keyOf goodOrigin goodPrefix clean goodAspa goodUpdate goodProviders asns ascending ascendingFrom sensible sensibleAspa sensibleUpdate sensibleProviders sensibleAsns isIn cells cellsF field run.encode entries encode walk misfit differenceOf mergedOf appliedOf
 examples = record {
   idle = record { fine = refl; fits = refl; yields = refl };
   idle-length = refl;
@@ -96,4 +112,12 @@ examples = record {
   origin-leads = record { fine = refl; fits = refl; yields = refl };
   origin-brings = refl;
   origins-after = refl;
+  bare-alone = refl;
+  bare-second = refl;
+  bare-first = refl;
+  own-provider = refl;
+  own-former = refl;
+  own-new = refl;
+  own-sound = refl;
+  bad-first = refl;
 }

@@ -1,4 +1,4 @@
--- Which inputs are read: refusal 10 over all arguments, then 1 and 2, the first argument first.
+-- Which inputs are read: refusal 10 over all arguments, then 1, 12 and 2, the first argument first.
 use Prim.Native.Nat.{ℕ, _≤_}
 use mathlib.Core.Path.{_≡_}
 use mathlib.Core.Bool.{cond}
@@ -10,7 +10,7 @@ use Rattle.field.specs.declared.verdict.Verdict.the-variants as verdict
 use Rattle.field.specs.Verdict.{verdict}
 use Rattle.payload.specs.Content.{Bytes}
 use Rattle.payload.specs.Limit.{limit}
-use Rattle.delta.specs.declared.refusal.Refusal.the-variants.{Bad, NotAbove, TooLong}
+use Rattle.delta.specs.declared.refusal.Refusal.the-variants.{Bad, NotAbove, TooLong, Senseless}
 use Rattle.delta.specs.declared.admit.Admitted.{Admitted}
 use Rattle.delta.specs.declared.admit.Admitted.the-variants.{Yes, No}
 
@@ -18,6 +18,7 @@ use Rattle.delta.specs.declared.admit.Admitted.the-variants.{Yes, No}
 abbrev pub refusalOf : ℕ → Verdict → Admitted
 refusalOf argument verdict.Fine = Yes
 refusalOf argument (verdict.Bad at) = No (Bad argument at)
+refusalOf argument (verdict.Senseless at) = No (Senseless argument at)
 refusalOf argument (verdict.NotAbove at) = No (NotAbove argument at)
 
 abbrev pub judgedOf : Form → Bytes → ℕ → Admitted

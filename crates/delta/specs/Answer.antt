@@ -72,7 +72,7 @@ mergeOf earlier later serial room = mergeAnswer (admitOf Delta earlier Delta lat
 unfoldable pub mergeOut : Bytes → Bytes → Bytes → Bytes
 mergeOut earlier later out = outAfter (admitOf Delta earlier Delta later) (mergedOf earlier later) out
 
--- snapshot, delta, room: refusal 3 comes after 10, 1 and 2
+-- snapshot, delta, room: refusal 3 comes after 10, 1, 12 and 2
 abbrev pub fitRefusal : Fit → Admitted
 fitRefusal All = Yes
 fitRefusal (Misfit at) = No (CannotApply at)

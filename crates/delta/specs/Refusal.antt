@@ -1,7 +1,7 @@
 -- Document 01's number, argument and offset for each refusal.
 use Prim.Native.Nat.{ℕ}
 use Rattle.delta.specs.declared.refusal.Refusal.{Refusal}
-use Rattle.delta.specs.declared.refusal.Refusal.the-variants.{Bad, NotAbove, CannotApply, NoRoom, OtherSession, NotServed, IllFormed, BadKeep, StoreFull, TooLong}
+use Rattle.delta.specs.declared.refusal.Refusal.the-variants.{Bad, NotAbove, CannotApply, NoRoom, OtherSession, NotServed, IllFormed, BadKeep, StoreFull, TooLong, Senseless}
 
 abbrev pub numberOf : Refusal → ℕ
 numberOf (Bad argument at) = 1
@@ -14,8 +14,9 @@ numberOf IllFormed = 7
 numberOf BadKeep = 8
 numberOf StoreFull = 9
 numberOf (TooLong argument) = 10
+numberOf (Senseless argument at) = 12
 
--- 1 or 2 for numbers 1, 2, 3 and 10, where a delta that cannot be applied is the second; else 0
+-- 1 or 2 for numbers 1, 2, 3, 10 and 12, where a delta that cannot be applied is the second; else 0
 abbrev pub argumentOf : Refusal → ℕ
 argumentOf (Bad argument at) = argument
 argumentOf (NotAbove argument at) = argument
@@ -27,8 +28,9 @@ argumentOf IllFormed = 0
 argumentOf BadKeep = 0
 argumentOf StoreFull = 0
 argumentOf (TooLong argument) = argument
+argumentOf (Senseless argument at) = argument
 
--- for 1, 2 and 3 the start of the field; else 0
+-- for 1, 2, 3 and 12 the start of the field; else 0
 abbrev pub offsetOf : Refusal → ℕ
 offsetOf (Bad argument at) = at
 offsetOf (NotAbove argument at) = at
@@ -40,6 +42,7 @@ offsetOf IllFormed = 0
 offsetOf BadKeep = 0
 offsetOf StoreFull = 0
 offsetOf (TooLong argument) = 0
+offsetOf (Senseless argument at) = at
 
 -- the three together
 pub record Values : Type 0 where

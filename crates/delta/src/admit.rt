@@ -1,4 +1,4 @@
-// Whether the inputs of an entry may be read: refusal 10, then 1 and 2.
+// Whether the inputs of an entry may be read: refusal 10, then 1, 12 and 2.
 use crate::refusal::Refusal;
 use field::tag::Form;
 use field::verdict::Verdict;
@@ -29,13 +29,14 @@ pub fn within_limit(form: Form, s: &[u8]) -> bool
     }
 }
 
-// Refusals 1 and 2 of one input.
+// Refusals 1, 12 and 2 of one input.
 pub fn judged(form: Form, s: &[u8], argument: u8) -> Admitted
     ensures { λ r. ⌜ r ≡ judgedOf form (now (s .entry)) argument ⌝ }
 {
     match check(form, s) {
         Verdict::Fine => Admitted::Yes,
         Verdict::Bad { at } => Admitted::No(Refusal::Bad { argument, at }),
+        Verdict::Senseless { at } => Admitted::No(Refusal::Senseless { argument, at }),
         Verdict::NotAbove { at } => Admitted::No(Refusal::NotAbove { argument, at }),
     }
 }
@@ -50,7 +51,7 @@ pub fn admit_one(form: Form, s: &[u8]) -> Admitted
     judged(form, s, 1)
 }
 
-// A pair of inputs: 10 over both, then 1 and 2, the first argument first.
+// A pair of inputs: 10 over both, then 1, 12 and 2, the first argument first.
 pub fn admit(first: Form, a: &[u8], second: Form, b: &[u8]) -> Admitted
     ensures { λ r. ⌜ r ≡ admitOf first (now (a .entry)) second (now (b .entry)) ⌝ }
 {

@@ -1,4 +1,4 @@
-// Document 01's ten refusals.
+// The refusals: document 01's ten, and those of later requests.
 ghost use mathlib.Core.Path.{_≡_};
 ghost use Rattle.delta.specs.Refusal.{numberOf, argumentOf, offsetOf};
 
@@ -22,6 +22,8 @@ pub enum Refusal {
     StoreFull,
     // An input, or a store at creation, is over its length limit.
     TooLong { argument: u8 },
+    // An ASPA has no providers, or names its customer among them.
+    Senseless { argument: u8, at: usize },
 }
 
 impl Refusal {
@@ -39,6 +41,7 @@ impl Refusal {
             Refusal::BadKeep => 8,
             Refusal::StoreFull => 9,
             Refusal::TooLong { argument: _ } => 10,
+            Refusal::Senseless { argument: _, at: _ } => 12,
         }
     }
 
@@ -56,6 +59,7 @@ impl Refusal {
             Refusal::BadKeep => 0,
             Refusal::StoreFull => 0,
             Refusal::TooLong { argument } => argument,
+            Refusal::Senseless { argument, at: _ } => argument,
         }
     }
 
@@ -73,6 +77,7 @@ impl Refusal {
             Refusal::BadKeep => 0,
             Refusal::StoreFull => 0,
             Refusal::TooLong { argument: _ } => 0,
+            Refusal::Senseless { argument: _, at } => at,
         }
     }
 }

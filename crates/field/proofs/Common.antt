@@ -80,4 +80,4 @@ found-origin s at f e =
 -- what follows it is a good run
 pub good-behind : (form : Form) (s : List ℕ) (at : ℕ) (tag : ℕ) (b rest : List ℕ) (to : ℕ) → GoodAt form s at → front (drop at s) ≡ whole tag b rest
     → rest ≡ drop to s → GoodAt form s to
-good-behind form s at tag b rest to g e r = record { before = _; run = rw r at (run-whole form tag b rest (g .run) e .2) }
+good-behind form s at tag b rest to g e r = record { before = _; run = rw r at (run-whole form tag b rest (g .run) e .3) }

@@ -14,7 +14,7 @@ use Rattle.order.specs.declared.Ordering.the-variants.{Less}
 use Rattle.order.specs.Comparison.{bytes}
 use Rattle.field.specs.declared.tag.Form.{Form}
 use Rattle.field.specs.declared.verdict.Verdict.the-variants.{Fine}
-use Rattle.field.specs.Tag.{goodBody}
+use Rattle.field.specs.Tag.{goodBody, sensible}
 use Rattle.field.specs.Head.{whole, front}
 use Rattle.field.specs.Verdict.{verdict}
 use Rattle.field.specs.Cells.{Cell, cellKey, cells, field, encode}
@@ -42,14 +42,14 @@ cells-encode (c ∷ cs) =
 pub data Ascent (form : Form) : List ℕ → List Cell → Type 0 where
   none : {k : List ℕ} → Ascent form k []
   next : {k : List ℕ} {c : Cell} {cs : List Cell} → goodBody form (c .tag) (c .body) ≡ true
-      → bytes k (cellKey form c) ≡ Less → Ascent form (cellKey form c) cs → Ascent form k (c ∷ cs)
+      → sensible form (c .tag) (c .body) ≡ true → bytes k (cellKey form c) ≡ Less → Ascent form (cellKey form c) cs → Ascent form k (c ∷ cs)
 
 -- good cells are a good run when written
 pub ascent-run : (form : Form) {k : List ℕ} {cs : List Cell} → Ascent form k cs → Run form k (encode cs)
 unfolding encode
 ascent-run form none = done
-ascent-run form (next {c = c} {cs = cs} g o a) =
-    more (c .tag) (c .body) (encode cs) (front-field (c .tag) (c .body) (encode cs)) g o (ascent-run form a)
+ascent-run form (next {c = c} {cs = cs} g z o a) =
+    more (c .tag) (c .body) (encode cs) (front-field (c .tag) (c .body) (encode cs)) g z o (ascent-run form a)
 
 pub ascent-fine : (form : Form) (cs : List Cell) → Ascent form (0 ∷ []) cs → verdict form (encode cs) ≡ Fine
 ascent-fine form cs a = run-verdict form (encode cs) (ascent-run form a)
@@ -57,7 +57,7 @@ ascent-fine form cs a = run-verdict form (encode cs) (ascent-run form a)
 -- and a good run has good cells
 pub run-ascent : (form : Form) {k s : List ℕ} → Run form k s → Ascent form k (cells s)
 run-ascent form done = rw cells-end none
-run-ascent form (more {s = s} tag b rest e g o r) = rw (cells-more s tag b rest e) (next g o (run-ascent form r))
+run-ascent form (more {s = s} tag b rest e g z o r) = rw (cells-more s tag b rest e) (next g z o (run-ascent form r))
 
 pub fine-ascent : (form : Form) (s : List ℕ) → verdict form s ≡ Fine → Ascent form (0 ∷ []) (cells s)
 fine-ascent form s e = run-ascent form (fine-run form s e)
@@ -85,7 +85,7 @@ rest-bytes s tag b rest bs e i = rw (e, getD-append-add (field tag b) rest i 0) 
 pub encode-cells : (form : Form) {k s : List ℕ} → Run form k s → AllBytes s → encode (cells s) ≡ s
 unfolding encode
 encode-cells form done bs = rw cells-end
-encode-cells form (more {s = s} tag b rest e g o r) bs =
+encode-cells form (more {s = s} tag b rest e g z o r) bs =
     let f = field-front s tag b rest bs e in
     rw (cells-more s tag b rest e) (ap (λ (l : List ℕ). field tag b ++ l) (encode-cells form r (rest-bytes s tag b rest bs f)) ∙ sym f)
 

@@ -5,11 +5,11 @@ use mathlib.Core.List.{List, [], _∷_, _++_}
 use mathlib.Core.Bool.{true, false}
 use lib.ListN.{length, drop}
 use Rattle.field.specs.declared.tag.Form.the-variants.{Snapshot, Delta}
-use Rattle.field.specs.declared.verdict.Verdict.the-variants.{Fine, Bad, NotAbove}
+use Rattle.field.specs.declared.verdict.Verdict.the-variants.{Fine, Bad, Senseless, NotAbove}
 use Rattle.field.specs.Origin.{clean, goodPrefix, goodOrigin}
 use Rattle.field.specs.RouterKey.{goodRouterKey}
-use Rattle.field.specs.Aspa.{asns, ascendingFrom, ascending, goodProviders, goodAspa, goodUpdate}
-use Rattle.field.specs.Tag.{tagOf, kindOf, goodBody}
+use Rattle.field.specs.Aspa.{asns, ascendingFrom, ascending, goodProviders, goodAspa, goodUpdate, isIn, sensibleAsns, sensibleProviders, sensibleAspa, sensibleUpdate}
+use Rattle.field.specs.Tag.{tagOf, kindOf, goodBody, sensible}
 use Rattle.field.specs.Head.{front}
 use Rattle.field.specs.Key.{keyOf}
 use Rattle.field.specs.Verdict.{judge, verdictF, verdict}
@@ -130,6 +130,34 @@ updates : (goodUpdate (asn 1 ++ 0 ∷ 0 ∷ []) ≡ true)
 unfolding goodUpdate goodProviders asns ascending ascendingFrom
 updates = (refl, refl, refl, refl, refl, refl, refl, refl, refl, refl, refl, refl, refl)
 
+-- which ASPAs make sense: no provider; one; the customer alone, first, last and in between; its neighbours; 4,096
+-- providers with the customer behind them and as the last; a customer that has the bytes of its provider the other way round
+sense : (sensibleAspa (asn 1) ≡ false)
+    × (sensibleAspa (asn 1 ++ asn 2) ≡ true)
+    × (sensibleAspa (asn 2 ++ asn 2) ≡ false)
+    × (sensibleAspa (asn 1 ++ asn 1 ++ asn 3) ≡ false)
+    × (sensibleAspa (asn 3 ++ asn 1 ++ asn 3) ≡ false)
+    × (sensibleAspa (asn 2 ++ asn 1 ++ asn 2 ++ asn 3) ≡ false)
+    × (sensibleAspa (asn 2 ++ asn 1 ++ asn 3) ≡ true)
+    × (sensibleAspa (asn 4_096 ++ run 4_096 0) ≡ true)
+    × (sensibleAspa (asn 4_095 ++ run 4_096 0) ≡ false)
+    × (sensibleAspa (asn 258 ++ asn 513) ≡ true)
+unfolding sensibleAspa sensibleProviders sensibleAsns isIn asns
+sense = (refl, refl, refl, refl, refl, refl, refl, refl, refl, refl)
+
+-- which updates: both lists, the former alone, the new alone and neither; the customer in the former, in the new; one list
+-- twice; a count of one too many, so that all is in the former
+update-sense : (sensibleUpdate (asn 1 ++ 0 ∷ 0 ∷ []) ≡ false)
+    × (sensibleUpdate (asn 1 ++ 0 ∷ 0 ∷ asn 2) ≡ false)
+    × (sensibleUpdate (asn 1 ++ 0 ∷ 1 ∷ asn 2) ≡ false)
+    × (sensibleUpdate (asn 1 ++ 0 ∷ 1 ∷ asn 2 ++ asn 3) ≡ true)
+    × (sensibleUpdate (asn 1 ++ 0 ∷ 2 ∷ asn 1 ++ asn 2 ++ asn 3) ≡ false)
+    × (sensibleUpdate (asn 3 ++ 0 ∷ 1 ∷ asn 2 ++ asn 1 ++ asn 3) ≡ false)
+    × (sensibleUpdate (asn 1 ++ 0 ∷ 1 ∷ asn 2 ++ asn 2) ≡ true)
+    × (sensibleUpdate (asn 1 ++ 0 ∷ 2 ∷ asn 2 ++ asn 3) ≡ false)
+unfolding sensibleUpdate sensibleProviders sensibleAsns isIn asns
+update-sense = (refl, refl, refl, refl, refl, refl, refl, refl)
+
 -- ---- tags
 
 -- unknown ones: no body is good
@@ -158,7 +186,7 @@ good : (verdict Snapshot [] ≡ Fine)
     × (verdict Delta [] ≡ Fine)
     × (verdict Snapshot (first ++ second) ≡ Fine)
     × (verdict Snapshot (first ++ 0x02 ∷ 0 ∷ 24 ∷ zeros 24 ++ 0x03 ∷ 0 ∷ 8 ∷ asn 1 ++ asn 2) ≡ Fine)
-unfolding verdict verdictF judge front keyOf kindOf goodBody tagOf goodOrigin goodPrefix clean goodRouterKey goodAspa goodProviders asns ascending ascendingFrom
+unfolding verdict verdictF judge front keyOf kindOf goodBody tagOf goodOrigin goodPrefix clean goodRouterKey goodAspa goodProviders asns ascending ascendingFrom sensible sensibleAspa sensibleProviders sensibleAsns isIn
 good = (refl, refl, refl, refl)
 
 -- refusal 1: a head of one byte and of two; a length one too long; a byte past the last field; an unknown tag; a bad body
@@ -170,35 +198,55 @@ bad : (verdict Snapshot (0x01 ∷ []) ≡ Bad 0)
     × (verdict Snapshot (first ++ 0x04 ∷ 0 ∷ 4 ∷ asn 1) ≡ Bad 26)
     × (verdict Snapshot (0x03 ∷ 4 ∷ 0 ∷ asn 1) ≡ Bad 0)
     × (verdict Delta first ≡ Bad 0)
-unfolding verdict verdictF judge front keyOf kindOf goodBody tagOf goodOrigin goodPrefix clean goodAspa goodProviders asns ascending ascendingFrom
+unfolding verdict verdictF judge front keyOf kindOf goodBody tagOf goodOrigin goodPrefix clean goodAspa goodProviders asns ascending ascendingFrom sensible sensibleAspa sensibleProviders sensibleAsns isIn
 bad = (refl, refl, refl, refl, refl, refl, refl, refl)
 
 -- refusal 2: a duplicate; descending origins; a kind below the one before it; two ASPAs that differ in providers alone
 not-above : (verdict Snapshot (first ++ first) ≡ NotAbove 26)
     × (verdict Snapshot (second ++ first) ≡ NotAbove 26)
-    × (verdict Snapshot (0x03 ∷ 0 ∷ 4 ∷ asn 1 ++ first) ≡ NotAbove 7)
+    × (verdict Snapshot (0x03 ∷ 0 ∷ 8 ∷ asn 1 ++ asn 2 ++ first) ≡ NotAbove 11)
     × (verdict Snapshot (0x03 ∷ 0 ∷ 8 ∷ asn 1 ++ asn 2 ++ 0x03 ∷ 0 ∷ 8 ∷ asn 1 ++ asn 3) ≡ NotAbove 11)
-    × (verdict Snapshot (0x03 ∷ 0 ∷ 4 ∷ asn 1 ++ 0x03 ∷ 0 ∷ 8 ∷ asn 1 ++ asn 3) ≡ NotAbove 7)
-unfolding verdict verdictF judge front keyOf kindOf goodBody tagOf goodOrigin goodPrefix clean goodAspa goodProviders asns ascending ascendingFrom
+    × (verdict Snapshot (0x03 ∷ 0 ∷ 8 ∷ asn 1 ++ asn 2 ++ 0x03 ∷ 0 ∷ 12 ∷ asn 1 ++ asn 2 ++ asn 3) ≡ NotAbove 11)
+unfolding verdict verdictF judge front keyOf kindOf goodBody tagOf goodOrigin goodPrefix clean goodAspa goodProviders asns ascending ascendingFrom sensible sensibleAspa sensibleProviders sensibleAsns isIn
 not-above = (refl, refl, refl, refl, refl)
 
--- 1 before 2 at one field, and the first bad field alone
-order-of-refusals : (verdict Snapshot (0x03 ∷ 0 ∷ 4 ∷ asn 1 ++ 0x03 ∷ 0 ∷ 12 ∷ asn 1 ++ asn 2 ++ asn 2) ≡ Bad 7)
-    × (verdict Snapshot (0x03 ∷ 0 ∷ 4 ∷ asn 2 ++ 0x00 ∷ 0 ∷ 4 ∷ asn 1) ≡ Bad 7)
-    × (verdict Snapshot (0x03 ∷ 0 ∷ 4 ∷ asn 1 ++ 0x03 ∷ 0 ∷ 4 ∷ asn 1 ++ 0x03 ∷ 0 ∷ 3 ∷ []) ≡ NotAbove 7)
-unfolding verdict verdictF judge front keyOf kindOf goodBody tagOf goodAspa goodProviders asns ascending ascendingFrom
-order-of-refusals = (refl, refl, refl)
+-- refusal 12: an ASPA without providers; one that names its customer last, behind another field; the same of each change,
+-- and of an update in either list
+senseless : (verdict Snapshot (0x03 ∷ 0 ∷ 4 ∷ asn 1) ≡ Senseless 0)
+    × (verdict Snapshot (first ++ 0x03 ∷ 0 ∷ 12 ∷ asn 3 ++ asn 2 ++ asn 3) ≡ Senseless 26)
+    × (verdict Delta (0x31 ∷ 0 ∷ 4 ∷ asn 1) ≡ Senseless 0)
+    × (verdict Delta (0x31 ∷ 0 ∷ 8 ∷ asn 1 ++ asn 2 ++ 0x31 ∷ 0 ∷ 8 ∷ asn 2 ++ asn 2) ≡ Senseless 11)
+    × (verdict Delta (0x32 ∷ 0 ∷ 4 ∷ asn 1) ≡ Senseless 0)
+    × (verdict Delta (0x32 ∷ 0 ∷ 8 ∷ asn 1 ++ asn 1) ≡ Senseless 0)
+    × (verdict Delta (0x33 ∷ 0 ∷ 10 ∷ asn 1 ++ 0 ∷ 0 ∷ asn 2) ≡ Senseless 0)
+    × (verdict Delta (0x33 ∷ 0 ∷ 10 ∷ asn 1 ++ 0 ∷ 1 ∷ asn 2) ≡ Senseless 0)
+    × (verdict Delta (0x33 ∷ 0 ∷ 14 ∷ asn 1 ++ 0 ∷ 1 ∷ asn 1 ++ asn 2) ≡ Senseless 0)
+    × (verdict Delta (0x33 ∷ 0 ∷ 14 ∷ asn 1 ++ 0 ∷ 1 ∷ asn 2 ++ asn 1) ≡ Senseless 0)
+unfolding verdict verdictF judge front keyOf kindOf goodBody tagOf goodOrigin goodPrefix clean goodAspa goodUpdate goodProviders asns ascending ascendingFrom sensible sensibleAspa sensibleUpdate sensibleProviders sensibleAsns isIn
+senseless = (refl, refl, refl, refl, refl, refl, refl, refl, refl, refl)
+
+-- at one field 1 before 2, 1 before 12 and 12 before 2, and the first bad field alone
+order-of-refusals : (verdict Snapshot (0x03 ∷ 0 ∷ 8 ∷ asn 1 ++ asn 2 ++ 0x03 ∷ 0 ∷ 12 ∷ asn 1 ++ asn 2 ++ asn 2) ≡ Bad 11)
+    × (verdict Snapshot (0x03 ∷ 0 ∷ 8 ∷ asn 2 ++ asn 3 ++ 0x00 ∷ 0 ∷ 4 ∷ asn 1) ≡ Bad 11)
+    × (verdict Snapshot (0x03 ∷ 0 ∷ 8 ∷ asn 1 ++ asn 2 ++ 0x03 ∷ 0 ∷ 8 ∷ asn 1 ++ asn 2 ++ 0x03 ∷ 0 ∷ 3 ∷ []) ≡ NotAbove 11)
+    × (verdict Snapshot (0x03 ∷ 0 ∷ 12 ∷ asn 2 ++ asn 2 ++ asn 1) ≡ Bad 0)
+    × (verdict Delta (0x33 ∷ 0 ∷ 18 ∷ asn 1 ++ 0 ∷ 1 ∷ asn 1 ++ asn 3 ++ asn 2) ≡ Bad 0)
+    × (verdict Snapshot (0x03 ∷ 0 ∷ 8 ∷ asn 1 ++ asn 2 ++ 0x03 ∷ 0 ∷ 4 ∷ asn 1) ≡ Senseless 11)
+    × (verdict Snapshot (0x03 ∷ 0 ∷ 4 ∷ asn 1 ++ 0x03 ∷ 0 ∷ 8 ∷ asn 1 ++ asn 2) ≡ Senseless 0)
+    × (verdict Snapshot (0x03 ∷ 0 ∷ 8 ∷ asn 1 ++ asn 2 ++ 0x03 ∷ 0 ∷ 8 ∷ asn 1 ++ asn 2 ++ 0x03 ∷ 0 ∷ 4 ∷ asn 2) ≡ NotAbove 11)
+unfolding verdict verdictF judge front keyOf kindOf goodBody tagOf goodAspa goodUpdate goodProviders asns ascending ascendingFrom sensible sensibleAspa sensibleUpdate sensibleProviders sensibleAsns isIn
+order-of-refusals = (refl, refl, refl, refl, refl, refl, refl, refl)
 
 -- a delta: the first hex digit decides before the key, whatever the action; one change for each key
 deltas : (verdict Delta (0x12 ∷ drop 1 first ++ 0x11 ∷ drop 1 second) ≡ Fine)
-    × (verdict Delta (0x31 ∷ 0 ∷ 4 ∷ asn 2 ++ 0x32 ∷ 0 ∷ 4 ∷ asn 3 ++ 0x33 ∷ 0 ∷ 6 ∷ asn 4 ++ 0 ∷ 0 ∷ []) ≡ Fine)
-    × (verdict Delta (0x33 ∷ 0 ∷ 6 ∷ asn 4 ++ 0 ∷ 0 ∷ 0x31 ∷ 0 ∷ 4 ∷ asn 5) ≡ Fine)
+    × (verdict Delta (0x31 ∷ 0 ∷ 8 ∷ asn 2 ++ asn 1 ++ 0x32 ∷ 0 ∷ 8 ∷ asn 3 ++ asn 1 ++ 0x33 ∷ 0 ∷ 14 ∷ asn 4 ++ 0 ∷ 1 ∷ asn 1 ++ asn 2) ≡ Fine)
+    × (verdict Delta (0x33 ∷ 0 ∷ 14 ∷ asn 4 ++ 0 ∷ 1 ∷ asn 1 ++ asn 1 ++ 0x31 ∷ 0 ∷ 8 ∷ asn 5 ++ asn 1) ≡ Fine)
     × (verdict Delta (0x11 ∷ drop 1 first ++ 0x12 ∷ drop 1 first) ≡ NotAbove 26)
-    × (verdict Delta (0x32 ∷ 0 ∷ 4 ∷ asn 1 ++ 0x31 ∷ 0 ∷ 8 ∷ asn 1 ++ asn 2) ≡ NotAbove 7)
-    × (verdict Delta (0x31 ∷ 0 ∷ 4 ∷ asn 1 ++ 0x12 ∷ drop 1 first) ≡ NotAbove 7)
+    × (verdict Delta (0x32 ∷ 0 ∷ 8 ∷ asn 1 ++ asn 3 ++ 0x31 ∷ 0 ∷ 8 ∷ asn 1 ++ asn 2) ≡ NotAbove 11)
+    × (verdict Delta (0x31 ∷ 0 ∷ 8 ∷ asn 1 ++ asn 2 ++ 0x12 ∷ drop 1 first) ≡ NotAbove 11)
     × (verdict Delta (0x33 ∷ 0 ∷ 6 ∷ asn 4 ++ 0 ∷ 1 ∷ []) ≡ Bad 0)
     × (verdict Delta (0x11 ∷ drop 1 first ++ 0x13 ∷ drop 1 second) ≡ Bad 26)
-unfolding verdict verdictF judge front keyOf kindOf goodBody tagOf goodOrigin goodPrefix clean goodAspa goodUpdate goodProviders asns ascending ascendingFrom
+unfolding verdict verdictF judge front keyOf kindOf goodBody tagOf goodOrigin goodPrefix clean goodAspa goodUpdate goodProviders asns ascending ascendingFrom sensible sensibleAspa sensibleUpdate sensibleProviders sensibleAsns isIn
 deltas = (refl, refl, refl, refl, refl, refl, refl, refl)
 
 -- ---- fields as bytes: the length's high byte first

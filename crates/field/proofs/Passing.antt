@@ -20,7 +20,7 @@ use Rattle.field.specs.declared.verdict.Stand.{Stand}
 use Rattle.field.specs.declared.words.Words.{Words}
 use Rattle.field.specs.Number.{fourAt}
 use Rattle.field.specs.Origin.{goodOrigin}
-use Rattle.field.specs.Tag.{tagOf, kindNumber, kindOf, goodTagged, goodBody}
+use Rattle.field.specs.Tag.{tagOf, kindNumber, kindOf, goodTagged, goodBody, sensibleTagged, sensible, sound}
 use Rattle.field.specs.Places.{part, fieldAt, keyIn, keyPlace}
 use Rattle.field.specs.Words.{wordsAt, NextWords}
 use Rattle.field.specs.Progress.{Judged, standBehind, If, Reaches, Further}
@@ -28,6 +28,7 @@ use Rattle.field.proofs.Eights.{Octets, digits, four-digits, part-bytes
 use Rattle.field.proofs.Fields.{whole-at, body-ordered, body-within}
 use Rattle.field.proofs.Fieldwords.{next-head, next-good, words-less}
 use Rattle.field.proofs.Judging.{judged-next}
+use Rattle.field.proofs.Sizes.{both}
 
 -- the rule of an origin's body
 origin-body : (form : Form) (tag : ℕ) (b : List ℕ) → kindOf form tag ≡ 1 → goodBody form tag b ≡ goodOrigin b
@@ -38,6 +39,22 @@ origin-body form tag b e = go (tagOf form tag) e
     go Unknown d = absurd (omega arith)
     go (Origin action) d = refl
     go (RouterKey action) d = absurd (omega arith)
+    go (Aspa action) d = absurd (omega arith)
+
+-- good, and sensible
+is-sound : (form : Form) (tag : ℕ) (b : List ℕ) → goodBody form tag b ≡ true → sensible form tag b ≡ true → true ≡ sound form tag b
+unfolding sound
+is-sound form tag b e d = rw (e, d)
+
+-- each makes sense
+origin-sense : (form : Form) (tag : ℕ) (b : List ℕ) → kindOf form tag ≡ 1 → sensible form tag b ≡ true
+unfolding kindOf sensible
+origin-sense form tag b e = go (tagOf form tag) e
+  where
+    go : (t : Tag) → kindNumber t ≡ 1 → sensibleTagged t b ≡ true
+    go Unknown d = refl
+    go (Origin action) d = refl
+    go (RouterKey action) d = refl
     go (Aspa action) d = absurd (omega arith)
 
 -- ---- behind
@@ -98,13 +115,14 @@ module _ (form : Form) (s : List ℕ) (start at : ℕ) (before field : Words) (l
         let head = next-head s o at room form (wordsAt s (at - 26)) n in
         let kind = head .kind in
         let good = origin-body form (getD s at 0) (part s (at + 3) (at + 26)) kind ∙ next-good s o at room form (wordsAt s (at - 26)) n in
+        let sense = origin-sense form (getD s at 0) (part s (at + 3) (at + 26)) kind in
         let less : bytes (part s (at - 23) at) (part s (at + 3) (at + 26)) ≡ Less
         = rw (y, z) at (words-less s o (at - 26) at (omega arith) room (n .above)) in
         record {
           origin = f;
           on = omega arith;
           room = omega arith;
-          judged = rw x (judged-next form s at (keyPlace 1 (at - 23) at) (l .judged) (Whole (getD s at 0) (at + 3) (at + 26)) (head .reads) (getD s at 0) (at + 3) (at + 26) refl true (sym good) refl 1 (sym kind) (record { kind = 1; from = at + 3; to = at + 26 }) refl Less (sym less) refl);
+          judged = rw x (judged-next form s at (keyPlace 1 (at - 23) at) (l .judged) (Whole (getD s at 0) (at + 3) (at + 26)) (head .reads) (getD s at 0) (at + 3) (at + 26) refl true (is-sound form (getD s at 0) (part s (at + 3) (at + 26)) good sense) refl 1 (sym kind) (record { kind = 1; from = at + 3; to = at + 26 }) refl Less (sym less) refl);
           behind = rw v (l .here);
           here = e;
         }
@@ -117,15 +135,18 @@ pub reach-none : (form : Form) (kind : ℕ) (s : List ℕ) (at : ℕ) → Reache
 reach-none form kind s at = record { holds = λ h. absurd (omega arith) }
 
 pub reach : (form : Form) (kind : ℕ) (s : List ℕ) (at : ℕ) (r : Field) → r ≡ fieldAt s at → (tag from to : ℕ) → r ≡ Whole tag from to
-    → (k : ℕ) → k ≡ kindOf form tag → k ≡ kind → (b : Bool) → b ≡ goodBody form tag (part s from to) → not b ≡ false → Reaches form kind s at to
+    → (k : ℕ) → k ≡ kindOf form tag → k ≡ kind → (b : Bool) → b ≡ sound form tag (part s from to) → not b ≡ false → Reaches form kind s at to
+unfolding sound
 reach form kind s at r f tag from to e k m n b g t =
     let z : from ≡ at + 3 = whole-at s at r f tag from to e .start in
+    let p = both (goodBody form tag (part s from to)) (sensible form tag (part s from to)) (sym g ∙ not-false b t) in
     record {
       holds = λ h. record {
         tag = tag;
         reads = rw z at (sym e ∙ f);
         kinds = sym n ∙ m;
-        good = rw z at (sym g ∙ not-false b t);
+        good = rw z at (p .0);
+        sense = rw z at (p .1);
       };
     }
 
@@ -192,7 +213,7 @@ module _ (form : Form) (s : List ℕ) (kind start from at front : ℕ) (l : Fron
         record {
           on = omega arith;
           long = omega arith;
-          judged = judged-next form s at (keyPlace kind from at) (l .judged) (Whole (g .tag) (at + 3) to) (g .reads) (g .tag) (at + 3) to refl true (sym (g .good)) refl kind (g .kinds) (keyPlace kind (at + 3) to) refl Less (sym less) refl;
+          judged = judged-next form s at (keyPlace kind from at) (l .judged) (Whole (g .tag) (at + 3) to) (g .reads) (g .tag) (at + 3) to refl true (is-sound form (g .tag) (part s (at + 3) to) (g .good) (g .sense)) refl kind (g .kinds) (keyPlace kind (at + 3) to) refl Less (sym less) refl;
           four = e;
         }
 

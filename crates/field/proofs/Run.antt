@@ -10,8 +10,8 @@ use Rattle.order.specs.declared.Ordering.the-variants.{Less, Equal, Greater}
 use Rattle.order.specs.Comparison.{bytes}
 use Rattle.field.specs.declared.tag.Form.{Form}
 use Rattle.field.specs.declared.verdict.Verdict.{Verdict}
-use Rattle.field.specs.declared.verdict.Verdict.the-variants.{Fine, Bad, NotAbove}
-use Rattle.field.specs.Tag.{goodBody, kindOf}
+use Rattle.field.specs.declared.verdict.Verdict.the-variants.{Fine, Bad, Senseless, NotAbove}
+use Rattle.field.specs.Tag.{goodBody, sensible, kindOf}
 use Rattle.field.specs.Head.{Front, end, cut, whole, front}
 use Rattle.field.specs.Key.{keyOf}
 use Rattle.field.specs.Verdict.{isLess, judge, verdictF, verdict}
@@ -73,17 +73,21 @@ cells-more s tag b rest e =
 bad≢fine : {X : Type 0} {at : ℕ} → Bad at ≡ Fine → X
 bad≢fine e = absurd (let z : _≡_ {A = ℕ} 0 1 = cc in omega arith)
 
+senseless≢fine : {X : Type 0} {at : ℕ} → Senseless at ≡ Fine → X
+senseless≢fine e = absurd (let z : _≡_ {A = ℕ} 0 1 = cc in omega arith)
+
 low≢fine : {X : Type 0} {at : ℕ} → NotAbove at ≡ Fine → X
 low≢fine e = absurd (let z : _≡_ {A = ℕ} 0 1 = cc in omega arith)
 
 module _ (form : Form) where
-  -- a judgement that finds nothing found a good body above the key before it
-  fine-whole : (at : ℕ) (g : Bool) (o : Ordering) (v : Verdict) → cond g (cond (isLess o) v (NotAbove at)) (Bad at) ≡ Fine
-      → (g ≡ true) × (o ≡ Less) × (v ≡ Fine)
-  fine-whole at true Less v e = (refl, refl, e)
-  fine-whole at true Equal v e = low≢fine e
-  fine-whole at true Greater v e = low≢fine e
-  fine-whole at false o v e = bad≢fine e
+  -- a judgement that finds nothing found a good body that makes sense, above the key before it
+  fine-whole : (at : ℕ) (g c : Bool) (o : Ordering) (v : Verdict) → cond g (cond c (cond (isLess o) v (NotAbove at)) (Senseless at)) (Bad at) ≡ Fine
+      → (g ≡ true) × (c ≡ true) × (o ≡ Less) × (v ≡ Fine)
+  fine-whole at true true Less v e = (refl, refl, refl, e)
+  fine-whole at true true Equal v e = low≢fine e
+  fine-whole at true true Greater v e = low≢fine e
+  fine-whole at true false o v e = senseless≢fine e
+  fine-whole at false c o v e = bad≢fine e
 
   abbrev Runs : ℕ → Type 0
   Runs n = (at : ℕ) (k s : List ℕ) → length s < n → verdictF form n at k s ≡ Fine → Run form k s
@@ -96,8 +100,8 @@ module _ (form : Form) where
   runs-at n ih at k s h (whole tag b rest) e q =
       let l = shorter s tag b rest e in
       let key : List ℕ = keyOf (kindOf form tag) b in
-      let p = fine-whole at (goodBody form tag b) (bytes k key) (verdictF form n (at + 3 + length b) key rest) q in
-      more tag b rest e (p .0) (p .1) (ih (at + 3 + length b) key rest (omega arith) (p .2))
+      let p = fine-whole at (goodBody form tag b) (sensible form tag b) (bytes k key) (verdictF form n (at + 3 + length b) key rest) q in
+      more tag b rest e (p .0) (p .1) (p .2) (ih (at + 3 + length b) key rest (omega arith) (p .3))
 
   runs : (n : ℕ) → Runs n
   unfolding verdictF
@@ -113,10 +117,10 @@ module _ (form : Form) where
   unfolding verdictF judge front
   run-fine done zero at h = absurd (omega arith)
   run-fine done (suc n) at h = refl
-  run-fine (more tag b rest e g o r) zero at h = absurd (omega arith)
-  run-fine (more {s = s} tag b rest e g o r) (suc n) at h =
+  run-fine (more tag b rest e g c o r) zero at h = absurd (omega arith)
+  run-fine (more {s = s} tag b rest e g c o r) (suc n) at h =
       let l = shorter s tag b rest e in
-      rw (e, g, o) (run-fine r n (at + 3 + length b) (omega arith))
+      rw (e, g, c, o) (run-fine r n (at + 3 + length b) (omega arith))
 
   -- and the other way round
   pub run-verdict : (s : List ℕ) → Run form (0 ∷ []) s → verdict form s ≡ Fine
@@ -129,15 +133,15 @@ module _ (form : Form) where
   pub run-cut : {k s : List ℕ} → Run form k s → front s ≡ cut → ⊥
   unfolding front
   run-cut done e = let z : _≡_ {A = ℕ} 0 1 = cc in omega arith
-  run-cut (more tag b rest f g o r) e = cut≢whole e f
+  run-cut (more tag b rest f g c o r) e = cut≢whole e f
 
-  -- the field in front is good, stands above the key before it, and a good run follows
+  -- the field in front is good, makes sense, stands above the key before it, and a good run follows
   pub run-whole : {k s : List ℕ} (tag : ℕ) (b rest : List ℕ) → Run form k s → front s ≡ whole tag b rest
-      → (goodBody form tag b ≡ true) × (bytes k (keyOf (kindOf form tag) b) ≡ Less) × Run form (keyOf (kindOf form tag) b) rest
+      → (goodBody form tag b ≡ true) × (sensible form tag b ≡ true) × (bytes k (keyOf (kindOf form tag) b) ≡ Less) × Run form (keyOf (kindOf form tag) b) rest
   unfolding front
   run-whole tag b rest done e = end≢whole refl e
-  run-whole {k} tag b rest (more t c q f g o r) e =
+  run-whole {k} tag b rest (more t c q f g w o r) e =
       let x : t ≡ tag = cc in
       let y : c ≡ b = cc in
       let z : q ≡ rest = cc in
-      (rw (x, y) at g, rw (x, y) at o, rw (x, y, z) at r)
+      (rw (x, y) at g, rw (x, y) at w, rw (x, y) at o, rw (x, y, z) at r)

@@ -1,8 +1,8 @@
 -- Tags: each arm of the matches over them.
 use Prim.Native.Nat.{ℕ}
-use mathlib.Core.Path.{_≡_}
+use mathlib.Core.Path.{_≡_, refl, _∙_}
 use mathlib.Core.List.{List}
-use mathlib.Core.Bool.{Bool, false}
+use mathlib.Core.Bool.{Bool, true, false, _&&_}
 use borrow.Author.Tests.{ne-eqb}
 use Rattle.field.specs.declared.tag.Form.{Form}
 use Rattle.field.specs.declared.tag.Form.the-variants.{Snapshot, Delta}
@@ -12,8 +12,8 @@ use Rattle.field.specs.declared.tag.Tag.{Tag}
 use Rattle.field.specs.declared.tag.Tag.the-variants.{Unknown, Origin, RouterKey, Aspa}
 use Rattle.field.specs.Origin.{goodOrigin}
 use Rattle.field.specs.RouterKey.{goodRouterKey}
-use Rattle.field.specs.Aspa.{goodAspa, goodUpdate}
-use Rattle.field.specs.Tag.{itemTag, changeTag, tagOf, kindOf, goodAspaBody, goodBody}
+use Rattle.field.specs.Aspa.{goodAspa, goodUpdate, sensibleAspa, sensibleUpdate}
+use Rattle.field.specs.Tag.{itemTag, changeTag, tagOf, kindOf, goodAspaBody, goodBody, sensibleAspaBody, sensible, sound}
 
 module _ (tag k : ℕ) (t : Tag) where
   pub item-known : tag ≡ k → t ≡ itemTag k → t ≡ itemTag tag
@@ -45,10 +45,6 @@ module _ (form : Form) (tag : ℕ) (t : Tag) (e : t ≡ tagOf form tag) where
   unfolding kindOf
   kind-unknown d = rw (← e, d)
 
-  pub body-unknown : (b : List ℕ) → t ≡ Unknown → false ≡ goodBody form tag b
-  unfolding goodBody
-  body-unknown b d = rw (← e, d)
-
   module _ (action : Action) where
     pub kind-origin : t ≡ Origin action → 1 ≡ kindOf form tag
     unfolding kindOf
@@ -61,19 +57,6 @@ module _ (form : Form) (tag : ℕ) (t : Tag) (e : t ≡ tagOf form tag) where
     pub kind-aspa : t ≡ Aspa action → 3 ≡ kindOf form tag
     unfolding kindOf
     kind-aspa d = rw (← e, d)
-
-    module _ (b : List ℕ) (r : Bool) where
-      pub body-origin : t ≡ Origin action → r ≡ goodOrigin b → r ≡ goodBody form tag b
-      unfolding goodBody
-      body-origin d q = rw (← e, d, q)
-
-      pub body-key : t ≡ RouterKey action → r ≡ goodRouterKey b → r ≡ goodBody form tag b
-      unfolding goodBody
-      body-key d q = rw (← e, d, q)
-
-      pub body-aspa : t ≡ Aspa action → r ≡ goodAspaBody action b → r ≡ goodBody form tag b
-      unfolding goodBody
-      body-aspa d q = rw (← e, d, q)
 
 module _ (action : Action) (b : List ℕ) (r : Bool) where
   pub aspa-held : action ≡ Hold → r ≡ goodAspa b → r ≡ goodAspaBody action b
@@ -88,4 +71,43 @@ module _ (action : Action) (b : List ℕ) (r : Bool) where
   pub aspa-updated : action ≡ Update → r ≡ goodUpdate b → r ≡ goodAspaBody action b
   aspa-updated d q = rw (d, q)
 
-pub ruleset tags = (tag-item, tag-change, kind-unknown, kind-origin, kind-key, kind-aspa, body-unknown, body-origin, body-key, body-aspa, aspa-held, aspa-announced, aspa-withdrawn, aspa-updated)
+pub ruleset tags = (tag-item, tag-change, kind-unknown, kind-origin, kind-key, kind-aspa, aspa-held, aspa-announced, aspa-withdrawn, aspa-updated)
+
+-- ---- bodies that make sense too
+
+alone : (g : Bool) → g ≡ g && true
+alone true = refl
+alone false = refl
+
+module _ (form : Form) (tag : ℕ) (t : Tag) (e : t ≡ tagOf form tag) (b : List ℕ) where
+  pub sound-unknown : t ≡ Unknown → false ≡ sound form tag b
+  unfolding sound goodBody
+  sound-unknown d = rw (← e, d)
+
+  module _ (action : Action) (r : Bool) where
+    pub sound-origin : t ≡ Origin action → r ≡ goodOrigin b → r ≡ sound form tag b
+    unfolding sound goodBody sensible
+    sound-origin d q = rw (← e, d) (q ∙ alone (goodOrigin b))
+
+    pub sound-key : t ≡ RouterKey action → r ≡ goodRouterKey b → r ≡ sound form tag b
+    unfolding sound goodBody sensible
+    sound-key d q = rw (← e, d) (q ∙ alone (goodRouterKey b))
+
+    pub sound-aspa : t ≡ Aspa action → r ≡ goodAspaBody action b && sensibleAspaBody action b → r ≡ sound form tag b
+    unfolding sound goodBody sensible
+    sound-aspa d q = rw (← e, d) q
+
+module _ (action : Action) (b : List ℕ) (r : Bool) where
+  pub sound-held : action ≡ Hold → r ≡ goodAspa b && sensibleAspa b → r ≡ goodAspaBody action b && sensibleAspaBody action b
+  sound-held d q = rw d q
+
+  pub sound-announced : action ≡ Announce → r ≡ goodAspa b && sensibleAspa b → r ≡ goodAspaBody action b && sensibleAspaBody action b
+  sound-announced d q = rw d q
+
+  pub sound-withdrawn : action ≡ Withdraw → r ≡ goodAspa b && sensibleAspa b → r ≡ goodAspaBody action b && sensibleAspaBody action b
+  sound-withdrawn d q = rw d q
+
+  pub sound-updated : action ≡ Update → r ≡ goodUpdate b && sensibleUpdate b → r ≡ goodAspaBody action b && sensibleAspaBody action b
+  sound-updated d q = rw d q
+
+pub ruleset sound-tags = (sound-unknown, sound-origin, sound-key, sound-aspa, sound-held, sound-announced, sound-withdrawn, sound-updated)

@@ -10,7 +10,7 @@ use Rattle.field.specs.declared.head.Field.{Field}
 use Rattle.field.specs.declared.head.Field.the-variants.{End, Cut, Whole}
 use Rattle.field.specs.declared.tag.Form.{Form}
 use Rattle.field.specs.declared.verdict.Verdict.the-variants.{Fine}
-use Rattle.field.specs.Tag.{goodBody, kindOf}
+use Rattle.field.specs.Tag.{goodBody, sensible, kindOf}
 use Rattle.field.specs.Key.{keyOf}
 use Rattle.field.specs.Verdict.{verdict}
 use Rattle.field.specs.Cells.{cells}
@@ -35,7 +35,7 @@ module _ (s : List ℕ) (at : ℕ) (r : Field) (f : r ≡ fieldAt s at) where
     good-cut e = run-cut form (g .run) (cut-at s at r f e)
 
     module _ (tag from to : ℕ) (e : r ≡ Whole tag from to) where
-      here : (goodBody form tag (part s from to) ≡ true) × (bytes (g .before) (keyOf (kindOf form tag) (part s from to)) ≡ Less)
+      here : (goodBody form tag (part s from to) ≡ true) × (sensible form tag (part s from to) ≡ true) × (bytes (g .before) (keyOf (kindOf form tag) (part s from to)) ≡ Less)
           × Run form (keyOf (kindOf form tag) (part s from to)) (drop to s)
       here = run-whole form tag (part s from to) (drop to s) (g .run) (whole-at s at r f tag from to e .reads)
 
@@ -43,10 +43,10 @@ module _ (s : List ℕ) (at : ℕ) (r : Field) (f : r ≡ fieldAt s at) where
       good-body = here .0
 
       pub good-above : bytes (g .before) (keyOf (kindOf form tag) (part s from to)) ≡ Less
-      good-above = here .1
+      good-above = here .2
 
       pub good-next : GoodAt form s to
-      good-next = record { before = keyOf (kindOf form tag) (part s from to); run = here .2 }
+      good-next = record { before = keyOf (kindOf form tag) (part s from to); run = here .3 }
 
 -- what a loop over a good run asks
 pub ruleset walking = (good-start, good-end, good-cells, good-cut, good-body, good-above, good-next, body-ordered, body-within, field-long, field-less, key-fits)

@@ -1,10 +1,10 @@
 -- The body of an ASPA: customer 4, then the providers; and of the update of one.
 use Prim.Native.Nat.{ℕ, _+_, _-_, _*_, _/_, _%_}
 use mathlib.Core.List.{List, [], _∷_}
-use mathlib.Core.Bool.{Bool, true, _&&_}
+use mathlib.Core.Bool.{Bool, true, false, not, _&&_, _||_}
 use lib.ListN.{length, take, drop}
 use lib.Dec.{leb, ltb, eqb}
-use Rattle.field.specs.Number.{four, twoAt}
+use Rattle.field.specs.Number.{four, twoAt, fourAt}
 
 -- the AS numbers of four bytes each; a rest of fewer than four bytes is none
 unfoldable pub asns : List ℕ → List ℕ
@@ -48,3 +48,35 @@ newOf b = drop (6 + formerSize b) b
 unfoldable pub goodUpdate : List ℕ → Bool
 goodUpdate b =
     leb 6 (length b) && leb (formerSize b) (length b - 6) && goodProviders (formerOf b) && goodProviders (newOf b)
+
+-- ---- which ASPAs make sense
+
+-- a number stands in a list
+unfoldable pub isIn : ℕ → List ℕ → Bool
+isIn x [] = false
+isIn x (y ∷ ys) = eqb y x || isIn x ys
+
+-- there is a provider, and none is the customer
+unfoldable pub sensibleAsns : ℕ → List ℕ → Bool
+sensibleAsns customer [] = false
+sensibleAsns customer (x ∷ xs) = not (isIn customer (x ∷ xs))
+
+-- strictly ascending too
+unfoldable pub soundAsns : ℕ → List ℕ → Bool
+soundAsns customer l = ascending l && sensibleAsns customer l
+
+-- the providers, by their bytes, make sense for the customer, by its four bytes
+unfoldable pub sensibleProviders : List ℕ → List ℕ → Bool
+sensibleProviders customer l = sensibleAsns (fourAt customer 0) (asns l)
+
+-- the customer, in the body of an ASPA and of an update
+abbrev pub customerOf : List ℕ → List ℕ
+customerOf b = take 4 b
+
+-- the providers of an ASPA make sense
+unfoldable pub sensibleAspa : List ℕ → Bool
+sensibleAspa b = sensibleProviders (customerOf b) (drop 4 b)
+
+-- and of an update the former ones and the new ones
+unfoldable pub sensibleUpdate : List ℕ → Bool
+sensibleUpdate b = sensibleProviders (customerOf b) (formerOf b) && sensibleProviders (customerOf b) (newOf b)

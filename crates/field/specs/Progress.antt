@@ -2,13 +2,15 @@
 use Prim.Native.Nat.{ℕ, _+_, _-_, _<_, _≤_}
 use mathlib.Core.Path.{_≡_}
 use mathlib.Core.List.{List}
-use mathlib.Core.Bool.{Bool, true}
+use mathlib.Core.Bool.{Bool, true, false, cond}
 use lib.ListN.{length, drop}
 use Rattle.field.specs.declared.key.Key.{Key}
 use Rattle.field.specs.declared.tag.Form.{Form}
 use Rattle.field.specs.declared.head.Field.the-variants.{Whole}
 use Rattle.field.specs.declared.verdict.Stand.{Stand}
-use Rattle.field.specs.Tag.{kindOf, goodBody}
+use Rattle.field.specs.declared.verdict.Verdict.{Verdict}
+use Rattle.field.specs.declared.verdict.Verdict.the-variants.{Bad, Senseless}
+use Rattle.field.specs.Tag.{kindOf, goodBody, sensible, sound}
 use Rattle.field.specs.Places.{part, fieldAt, keyIn, keyPlace}
 use Rattle.field.specs.Verdict.{verdictF, verdict}
 
@@ -23,16 +25,30 @@ pub record Judged (form : Form) (s : List ℕ) (at : ℕ) (k : Key) : Type 0 whe
 abbrev pub standBehind : ℕ → ℕ → ℕ → Stand
 standBehind kind from to = record { at = to; before = keyPlace kind from to }
 
+-- the refusal of the field at `at`, whose body is not both good and sensible, by whether it is good
+abbrev pub refusedAt : Bool → ℕ → Verdict
+refusedAt good at = cond good (Senseless at) (Bad at)
+
+-- v is the refusal of the field at `at` with this tag and body, unless it is sound
+pub record Refuses (form : Form) (tag : ℕ) (b : List ℕ) (at : ℕ) (v : Verdict) : Type 0 where
+  pub is : sound form tag b ≡ false → v ≡ refusedAt (goodBody form tag b) at
+
+-- nothing is left exactly if t holds
+pub record Leaves (left : ℕ) (t : Bool) : Type 0 where
+  pub none : left ≡ 0 → true ≡ t
+  pub some : (left ≡ 0 → ⊥) → false ≡ t
+
 -- a yes is right, a no decides nothing
 pub record If (r : Bool) (P : Type 0) : Type 0 where
   pub holds : r ≡ true → P
 
--- at `at` stands a good field of this kind, which ends at `to`
+-- at `at` stands a good field of this kind that makes sense, and it ends at `to`
 pub record GoodField (form : Form) (kind : ℕ) (s : List ℕ) (at to : ℕ) : Type 0 where
   pub tag : ℕ
   pub reads : Whole tag (at + 3) to ≡ fieldAt s at
   pub kinds : kind ≡ kindOf form tag
   pub good : goodBody form tag (part s (at + 3) to) ≡ true
+  pub sense : sensible form tag (part s (at + 3) to) ≡ true
 
 -- so it is, if `to` is past `at`
 pub record Reaches (form : Form) (kind : ℕ) (s : List ℕ) (at to : ℕ) : Type 0 where

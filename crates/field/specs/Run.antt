@@ -7,7 +7,7 @@ use lib.ListN.{getD, drop}
 use Rattle.order.specs.declared.Ordering.the-variants.{Less}
 use Rattle.order.specs.Comparison.{bytes}
 use Rattle.field.specs.declared.tag.Form.{Form}
-use Rattle.field.specs.Tag.{goodBody, kindOf}
+use Rattle.field.specs.Tag.{goodBody, sensible, kindOf}
 use Rattle.field.specs.Head.{whole, front}
 use Rattle.field.specs.Key.{keyOf}
 
@@ -15,11 +15,11 @@ use Rattle.field.specs.Key.{keyOf}
 abbrev pub AllBytes : List ℕ → Type 0
 AllBytes s = (i : ℕ) → getD s i 0 < 256
 
--- a good run behind the key k: its end, or a good field above k and a good run behind it
+-- a good run behind the key k: its end, or a good field that makes sense, above k, and a good run behind it
 pub data Run (form : Form) : List ℕ → List ℕ → Type 0 where
   done : {k : List ℕ} → Run form k []
   more : {k s : List ℕ} (tag : ℕ) (b rest : List ℕ) → front s ≡ whole tag b rest → goodBody form tag b ≡ true
-      → bytes k (keyOf (kindOf form tag) b) ≡ Less → Run form (keyOf (kindOf form tag) b) rest → Run form k s
+      → sensible form tag b ≡ true → bytes k (keyOf (kindOf form tag) b) ≡ Less → Run form (keyOf (kindOf form tag) b) rest → Run form k s
 
 -- the bytes of s from `at` on are a good run, behind some key
 pub record GoodAt (form : Form) (s : List ℕ) (at : ℕ) : Type 0 where

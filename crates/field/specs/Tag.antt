@@ -1,7 +1,7 @@
--- Tags: the kind of a field's item, what a delta does with it, and the rule of its body.
+-- Tags: the kind of a field's item, what a delta does with it, and the rules of its body.
 use Prim.Native.Nat.{ℕ}
 use mathlib.Core.List.{List}
-use mathlib.Core.Bool.{Bool, false, cond}
+use mathlib.Core.Bool.{Bool, true, false, cond, _&&_}
 use lib.Dec.{eqb}
 use Rattle.field.specs.declared.tag.Form.{Form}
 use Rattle.field.specs.declared.tag.Form.the-variants.{Snapshot, Delta}
@@ -11,7 +11,7 @@ use Rattle.field.specs.declared.tag.Tag.{Tag}
 use Rattle.field.specs.declared.tag.Tag.the-variants.{Unknown, Origin, RouterKey, Aspa}
 use Rattle.field.specs.Origin.{goodOrigin}
 use Rattle.field.specs.RouterKey.{goodRouterKey}
-use Rattle.field.specs.Aspa.{goodAspa, goodUpdate}
+use Rattle.field.specs.Aspa.{goodAspa, goodUpdate, sensibleAspa, sensibleUpdate}
 
 -- the three tags of a snapshot
 abbrev pub itemTag : ℕ → Tag
@@ -64,3 +64,25 @@ goodTagged (Aspa action) b = goodAspaBody action b
 -- the rule of a body by its tag
 unfoldable pub goodBody : Form → ℕ → List ℕ → Bool
 goodBody form tag b = goodTagged (tagOf form tag) b
+
+-- whether an ASPA's body makes sense
+abbrev pub sensibleAspaBody : Action → List ℕ → Bool
+sensibleAspaBody Hold b = sensibleAspa b
+sensibleAspaBody Announce b = sensibleAspa b
+sensibleAspaBody Withdraw b = sensibleAspa b
+sensibleAspaBody Update b = sensibleUpdate b
+
+-- whether a body makes sense, by what its tag says: of origins and router keys each does
+abbrev pub sensibleTagged : Tag → List ℕ → Bool
+sensibleTagged Unknown b = true
+sensibleTagged (Origin action) b = true
+sensibleTagged (RouterKey action) b = true
+sensibleTagged (Aspa action) b = sensibleAspaBody action b
+
+-- whether a body makes sense, by its tag
+unfoldable pub sensible : Form → ℕ → List ℕ → Bool
+sensible form tag b = sensibleTagged (tagOf form tag) b
+
+-- a body that gets neither refusal 1 nor 12
+unfoldable pub sound : Form → ℕ → List ℕ → Bool
+sound form tag b = goodBody form tag b && sensible form tag b

@@ -8,8 +8,8 @@ use Rattle.order.specs.declared.Ordering.{Ordering}
 use Rattle.order.specs.declared.Ordering.the-variants.{Less, Equal, Greater}
 use Rattle.field.specs.declared.tag.Form.{Form}
 use Rattle.field.specs.declared.verdict.Verdict.{Verdict}
-use Rattle.field.specs.declared.verdict.Verdict.the-variants.{Fine, Bad, NotAbove}
-use Rattle.field.specs.Tag.{goodBody, kindOf}
+use Rattle.field.specs.declared.verdict.Verdict.the-variants.{Fine, Bad, Senseless, NotAbove}
+use Rattle.field.specs.Tag.{goodBody, sensible, kindOf}
 use Rattle.field.specs.Head.{Front, end, cut, whole, front}
 use Rattle.field.specs.Key.{keyOf}
 
@@ -19,16 +19,18 @@ isLess Less = true
 isLess Equal = false
 isLess Greater = false
 
--- the field at `at`, behind one with the key `before`: refusal 1, then 2; else `go` judges what is behind it,
+-- the field at `at`, behind one with the key `before`: refusal 1, then 12, then 2; else `go` judges what is behind it,
 -- from its offset, its key and the rest of the bytes
 unfoldable pub judge : Form → ℕ → List ℕ → Front → (ℕ → List ℕ → List ℕ → Verdict) → Verdict
 judge form at before end go = Fine
 judge form at before cut go = Bad at
 judge form at before (whole tag b rest) go =
     cond (goodBody form tag b)
+    (cond (sensible form tag b)
     (cond (isLess (bytes before (keyOf (kindOf form tag) b)))
     (go (at + 3 + length b) (keyOf (kindOf form tag) b) rest)
     (NotAbove at))
+    (Senseless at))
     (Bad at)
 
 -- the fields of s, of which the first stands at `at`, behind one with the key `before`; n is more than there are

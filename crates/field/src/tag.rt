@@ -1,10 +1,13 @@
-// Tags: the kind of a field's item, what a delta does with it, and so which rule its body follows.
+// Tags: the kind of a field's item, what a delta does with it, and so which rules its body follows.
 use crate::aspa::aspa_ok;
+use crate::aspa::aspa_sound;
 use crate::aspa::update_ok;
+use crate::aspa::update_sound;
 use crate::origin::origin_ok;
 use crate::router_key::router_key_ok;
 ghost use mathlib.Core.Path.{_≡_};
-ghost use Rattle.field.specs.Tag.{itemTag, changeTag, tagOf, kindOf, goodAspaBody, goodBody};
+ghost use mathlib.Core.Bool.{_&&_};
+ghost use Rattle.field.specs.Tag.{itemTag, changeTag, tagOf, kindOf, goodAspaBody, sensibleAspaBody, sound};
 
 // The runs of fields that there are.
 pub enum Form {
@@ -79,7 +82,7 @@ pub fn kind_of(form: Form, tag: u8) -> u8
 }
 
 // Whether the body of an ASPA's field keeps to its rule.
-fn aspa_body_ok(action: Action, body: &[u8]) -> bool
+pub(crate) fn aspa_body_ok(action: Action, body: &[u8]) -> bool
     ensures { λ r. ⌜ r ≡ goodAspaBody action (now (body .entry)) ⌝ }
 {
     match action {
@@ -90,14 +93,26 @@ fn aspa_body_ok(action: Action, body: &[u8]) -> bool
     }
 }
 
-// Whether the tag is known and the body keeps to its rule.
-pub fn body_ok(form: Form, tag: u8, body: &[u8]) -> bool
-    ensures { λ r. ⌜ r ≡ goodBody form tag (now (body .entry)) ⌝ }
+// Whether the body of an ASPA's field keeps to its rule and makes sense.
+fn aspa_body_sound(action: Action, body: &[u8]) -> bool
+    ensures { λ r. ⌜ r ≡ goodAspaBody action (now (body .entry)) && sensibleAspaBody action (now (body .entry)) ⌝ }
+{
+    match action {
+        Action::Hold => aspa_sound(body),
+        Action::Announce => aspa_sound(body),
+        Action::Withdraw => aspa_sound(body),
+        Action::Update => update_sound(body),
+    }
+}
+
+// Whether the tag is known and the body keeps to its rule and makes sense.
+pub fn body_sound(form: Form, tag: u8, body: &[u8]) -> bool
+    ensures { λ r. ⌜ r ≡ sound form tag (now (body .entry)) ⌝ }
 {
     match tag_of(form, tag) {
         Tag::Unknown => false,
         Tag::Origin(_) => origin_ok(body),
         Tag::RouterKey(_) => router_key_ok(body),
-        Tag::Aspa(action) => aspa_body_ok(action, body),
+        Tag::Aspa(action) => aspa_body_sound(action, body),
     }
 }

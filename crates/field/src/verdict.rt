@@ -5,23 +5,30 @@ use crate::key::Key;
 use crate::key::key_at;
 use crate::key::key_compare;
 use crate::number::four_at;
+use crate::tag::Action;
 use crate::tag::Form;
-use crate::tag::body_ok;
+use crate::tag::Tag;
+use crate::tag::aspa_body_ok;
+use crate::tag::body_sound;
 use crate::tag::kind_of;
+use crate::tag::tag_of;
 use crate::words::next_words;
 use crate::words::words_at;
 use order::Ordering;
 ghost use mathlib.Core.Path.{_≡_};
 ghost use Prim.Native.Nat.{_+_, _-_, _≤_};
 ghost use Rattle.field.specs.Places.{keyPlace};
+ghost use Rattle.field.specs.Tag.{goodAspaBody};
 ghost use Rattle.field.specs.Verdict.{verdict};
-ghost use Rattle.field.specs.Progress.{Judged, standBehind, Reaches, Further};
+ghost use Rattle.field.specs.Progress.{Judged, standBehind, refusedAt, Refuses, Reaches, Further};
 
 // What the check finds: nothing, or the first bad field, by its offset.
 pub enum Verdict {
     Fine,
     // It is cut short, has an unknown tag, or breaks a body rule.
     Bad { at: usize },
+    // It is an ASPA without providers, or one that names its customer among them.
+    Senseless { at: usize },
     // It does not stand above the one before it.
     NotAbove { at: usize },
 }
@@ -63,7 +70,7 @@ fn pass_origins(form: Form, s: &[u8], start: usize) -> Stand
     behind(1, at - 23, at)
 }
 
-// Where the field at `at` ends, if it is a good one of this kind; else `at`.
+// Where the field at `at` ends, if it is a good one of this kind that makes sense; else `at`.
 fn good_end(form: Form, kind: u8, s: &[u8], at: usize) -> usize
     ensures { λ r. ⌜ Reaches form kind (now (s .entry)) at r ⌝ }
 {
@@ -74,7 +81,7 @@ fn good_end(form: Form, kind: u8, s: &[u8], at: usize) -> usize
             if kind_of(form, tag) != kind {
                 return at;
             }
-            if !body_ok(form, tag, &s[from..to]) {
+            if !body_sound(form, tag, &s[from..to]) {
                 return at;
             }
             to
@@ -133,6 +140,28 @@ fn pass(form: Form, s: &[u8], at: usize, before: Key) -> Stand
     pass_origins(form, s, at)
 }
 
+// The refusal of an ASPA's field at `at`, whose body breaks its rule or makes no sense.
+fn refused_aspa(action: Action, body: &[u8], at: usize) -> Verdict
+    ensures { λ r. ⌜ r ≡ refusedAt (goodAspaBody action (now (body .entry))) at ⌝ }
+{
+    if aspa_body_ok(action, body) {
+        return Verdict::Senseless { at };
+    }
+    Verdict::Bad { at }
+}
+
+// The refusal of the field at `at`, whose body breaks its rule or makes no sense.
+fn refused(form: Form, tag: u8, body: &[u8], at: usize) -> Verdict
+    ensures { λ r. ⌜ Refuses form tag (now (body .entry)) at r ⌝ }
+{
+    match tag_of(form, tag) {
+        Tag::Unknown => Verdict::Bad { at },
+        Tag::Origin(_) => Verdict::Bad { at },
+        Tag::RouterKey(_) => Verdict::Bad { at },
+        Tag::Aspa(action) => refused_aspa(action, body, at),
+    }
+}
+
 // The check of a snapshot or a delta.
 pub fn check(form: Form, s: &[u8]) -> Verdict
     ensures { λ r. ⌜ r ≡ verdict form (now (s .entry)) ⌝ }
@@ -148,8 +177,8 @@ pub fn check(form: Form, s: &[u8]) -> Verdict
             Field::End => return Verdict::Fine,
             Field::Cut => return Verdict::Bad { at },
             Field::Whole { tag, from, to } => {
-                if !body_ok(form, tag, &s[from..to]) {
-                    return Verdict::Bad { at };
+                if !body_sound(form, tag, &s[from..to]) {
+                    return refused(form, tag, &s[from..to], at);
                 }
                 let key = key_at(kind_of(form, tag), from, to);
                 match key_compare(s, before, s, key) {

@@ -40,6 +40,7 @@ both false b e = absurd (let z : _≡_ {A = ℕ} 0 1 = cc in omega arith)
 fine : (v : Verdict) → isFine v ≡ true → v ≡ verdict.Fine
 fine verdict.Fine e = refl
 fine (verdict.Bad at) e = absurd (let z : _≡_ {A = ℕ} 0 1 = cc in omega arith)
+fine (verdict.Senseless at) e = absurd (let z : _≡_ {A = ℕ} 0 1 = cc in omega arith)
 fine (verdict.NotAbove at) e = absurd (let z : _≡_ {A = ℕ} 0 1 = cc in omega arith)
 
 pub record Formed (h : History) (snapshots deltas : Bytes) : Type 0 where

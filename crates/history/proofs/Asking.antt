@@ -114,6 +114,7 @@ both false b e = absurd (let z : _≡_ {A = ℕ} 0 1 = cc in omega arith)
 fine-true : (v : Verdict) → isFine v ≡ true → v ≡ verdict.Fine
 fine-true verdict.Fine e = refl
 fine-true (verdict.Bad at) e = absurd (let z : _≡_ {A = ℕ} 0 1 = cc in omega arith)
+fine-true (verdict.Senseless at) e = absurd (let z : _≡_ {A = ℕ} 0 1 = cc in omega arith)
 fine-true (verdict.NotAbove at) e = absurd (let z : _≡_ {A = ℕ} 0 1 = cc in omega arith)
 
 every-true : (ds : List Bytes) → every (isGood Delta) ds ≡ true → All IsFine ds

@@ -86,10 +86,13 @@ module _ (form : Form) (s : Bytes) (v : Verdict) (e : v ≡ verdict form s) wher
   pub good-bad : (at : ℕ) → v ≡ verdict.Bad at → false ≡ isGood form s
   good-bad at d = rw (← e, d)
 
+  pub good-senseless : (at : ℕ) → v ≡ verdict.Senseless at → false ≡ isGood form s
+  good-senseless at d = rw (← e, d)
+
   pub good-low : (at : ℕ) → v ≡ verdict.NotAbove at → false ≡ isGood form s
   good-low at d = rw (← e, d)
 
-pub ruleset judging = (good-fine, good-bad, good-low)
+pub ruleset judging = (good-fine, good-bad, good-senseless, good-low)
 
 module _ (n : ℕ) (s : Bytes) (t : Bool) (e : t ≡ leb (length s) (limit Snapshot)) where
   pub snapshot-long : not t ≡ true → false ≡ goodSnapshot n s

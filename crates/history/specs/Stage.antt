@@ -25,7 +25,7 @@ pub record Compares (h : History) (new snapshots : Bytes) : Type 0 where
   pub within : h .snapshot ≤ length snapshots
   pub inputs : Inputs Snapshot (heldSnapshot h snapshots) Snapshot new
 
--- 7, then 10, 1 and 2 of the new snapshot
+-- 7, then 10, 1, 12 and 2 of the new snapshot
 unfoldable pub updateAdmitted : History → Bytes → Bytes → Bytes → Admitted
 updateAdmitted h new snapshots deltas = cond (wellFormed h snapshots deltas) (admitOneOf Snapshot new) (No IllFormed)
 

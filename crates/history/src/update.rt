@@ -25,7 +25,7 @@ ghost use Rattle.past.specs.Store.{heldSnapshot};
 ghost use Rattle.past.specs.Update.{updateOf, updateSnapshots, updateDeltas};
 ghost use Rattle.history.specs.Stage.{Judged, Compares, Accepts, Renews, Extends, Does, Stores, firstOf, firstStore};
 
-// Refusal 7, then 10, 1 and 2 of the new snapshot.
+// Refusal 7, then 10, 1, 12 and 2 of the new snapshot.
 fn admitted(history: History, new: &[u8], snapshots: &[u8], deltas: &[u8]) -> Admitted
     ensures { λ r. ⌜ Judged history (now (new .entry)) (now (snapshots .entry)) (now (deltas .entry)) r ⌝ }
 {

@@ -85,6 +85,7 @@ fn is_good(form: Form, s: &[u8]) -> bool
     match check(form, s) {
         Verdict::Fine => true,
         Verdict::Bad { at: _ } => false,
+        Verdict::Senseless { at: _ } => false,
         Verdict::NotAbove { at: _ } => false,
     }
 }

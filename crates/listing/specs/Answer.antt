@@ -25,7 +25,7 @@ abbrev pub listAt : Admitted → Bytes → ℕ → Listed
 listAt (No r) text room = listed.Refused r
 listAt Yes text room = listedOf text room
 
--- delta, serial, room: refusals 10, 1 and 2 of a lone delta, then 4
+-- delta, serial, room: refusals 10, 1, 12 and 2 of a lone delta, then 4
 unfoldable pub listOf : Bytes → Serial → ℕ → Listed
 listOf d serial room = listAt (admitOneOf Delta d) (listingOf serial d) room
 

@@ -5,8 +5,8 @@ use mathlib.Core.List.{List, [], _∷_, _++_}
 use mathlib.Core.Bool.{Bool, true, false}
 use lib.ListN.{length, replicate}
 use Rattle.order.specs.Walk.{walk}
-use Rattle.field.specs.Tag.{tagOf, kindOf, goodBody}
-use Rattle.field.specs.Aspa.{asns, ascendingFrom, ascending, goodProviders, goodAspa, goodUpdate}
+use Rattle.field.specs.Tag.{tagOf, kindOf, goodBody, sensible}
+use Rattle.field.specs.Aspa.{asns, ascendingFrom, ascending, goodProviders, goodAspa, goodUpdate, isIn, sensibleAsns, sensibleProviders, sensibleAspa, sensibleUpdate}
 use Rattle.field.specs.Head.{front}
 use Rattle.field.specs.Key.{keyOf}
 use Rattle.field.specs.Verdict.{judge, verdictF, verdict}
@@ -14,7 +14,7 @@ use Rattle.field.specs.Cells.{cellsF, cells, field}
 use Rattle.field.specs.Cells as run
 use Rattle.payload.specs.Content.{Bytes}
 use Rattle.payload.specs.Payload.{entries, encode}
-use Rattle.delta.specs.declared.refusal.Refusal.the-variants.{BadKeep, StoreFull, Bad, OtherSession, NotServed}
+use Rattle.delta.specs.declared.refusal.Refusal.the-variants.{BadKeep, StoreFull, Bad, Senseless, OtherSession, NotServed}
 use Rattle.delta.specs.Answer.{differenceOf, countsOf}
 use Rattle.past.specs.declared.state.History.{History}
 use Rattle.past.specs.declared.create.Creation.the-variants as creation
@@ -26,7 +26,7 @@ use Rattle.past.specs.Create.{freshOf, createOf}
 use Rattle.past.specs.Update.{stepFor, updateOf, updateSnapshots, updateDeltas}
 use Rattle.past.specs.Query.{mergedLast, refusedWith, servedWith, queryOf}
 use Rattle.past.specs.Run.{World, Call, update, updated, replyOf, Run, startOf, runOf}
-use Rattle.past.specs.Marked.{p, q, inSnapshot, delta1, delta2, delta3}
+use Rattle.past.specs.Marked.{p, q, customer, inSnapshot, delta1, delta2, delta3}
 
 -- a history as it stands with these deltas
 abbrev state : ℕ → ℕ → ℕ → ℕ → List Bytes → History
@@ -95,6 +95,7 @@ pub record Examples : Type 0 where
   changed-answer : replyOf (runs 2 32 ([] ∷ []) .world) (update (inSnapshot p)) ≡ updated (Changed (countsOf delta1))
   unchanged-answer : replyOf (runs 2 32 (inSnapshot p ∷ []) .world) (update (inSnapshot p)) ≡ updated Unchanged
   bad-answer : replyOf (runs 2 32 (inSnapshot p ∷ []) .world) (update (3 ∷ [])) ≡ updated (Refused (Bad 1 0))
+  senseless-answer : replyOf (runs 2 32 (inSnapshot p ∷ []) .world) (update (inSnapshot customer)) ≡ updated (Refused (Senseless 1 0))
   -- while inactive, serial 0 gets the empty delta; a session of other low bits is refused
   inactive-query : queryOf (freshOf 65_543 2 (record { 0 = 0 })) (record { 0 = 7 }) (record { 0 = 0 }) [] [] 0 ≡ servedWith (freshOf 65_543 2 (record { 0 = 0 })) []
   -- from another start serial that one does, and 0 is refused
@@ -122,6 +123,9 @@ pub record Examples : Type 0 where
   -- a snapshot or a delta that is not good
   bad-snapshot : wellFormed (any 2 true 0 0 1 []) (3 ∷ []) [] ≡ false
   bad-delta : wellFormed (any 2 true 1 0 0 (1 ∷ [])) [] (0x31 ∷ []) ≡ false
+  -- and so one with an ASPA that names its customer, or has no providers
+  senseless-snapshot : wellFormed (any 2 true 0 0 11 []) (inSnapshot customer) [] ≡ false
+  senseless-delta : wellFormed (any 2 true 1 0 0 (7 ∷ [])) [] (0x31 ∷ 0 ∷ 4 ∷ customer) ≡ false
   -- well formed: a fresh one, and F = 0 with a delta, as after the wrap
   fresh : wellFormed (any 2 false 0 0 0 []) [] [] ≡ true
   fresh-there : wellFormed (any 2 false 7 7 0 []) [] [] ≡ true
@@ -129,7 +133,7 @@ pub record Examples : Type 0 where
   wrapped : wellFormed (any 2 true 0 0 11 (11 ∷ [])) (inSnapshot p) delta1 ≡ true
 
 pub examples : Examples
-unfolding createOf stepFor updateOf updateSnapshots updateDeltas queryOf wellFormed mergedLast verdict verdictF judge front goodBody tagOf kindOf keyOf goodAspa goodUpdate goodProviders asns ascending ascendingFrom cells cellsF field run.encode entries encode walk differenceOf
+unfolding createOf stepFor updateOf updateSnapshots updateDeltas queryOf wellFormed mergedLast verdict verdictF judge front goodBody tagOf kindOf keyOf goodAspa goodUpdate goodProviders asns ascending ascendingFrom sensible sensibleAspa sensibleUpdate sensibleProviders sensibleAsns isIn cells cellsF field run.encode entries encode walk differenceOf
 examples = record {
   first-run = refl;
   long-run = refl;
@@ -142,6 +146,7 @@ examples = record {
   changed-answer = refl;
   unchanged-answer = refl;
   bad-answer = refl;
+  senseless-answer = refl;
   inactive-query = refl;
   start-query = refl;
   zero-query = refl;
@@ -162,6 +167,8 @@ examples = record {
   deltas-past = refl;
   bad-snapshot = refl;
   bad-delta = refl;
+  senseless-snapshot = refl;
+  senseless-delta = refl;
   fresh = refl;
   fresh-there = refl;
   first-formed = refl;

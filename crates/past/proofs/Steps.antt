@@ -11,7 +11,7 @@ use borrow.Author.Tests.{leb-true, leb-false, le-leb, lt-leb, eqb-true, eqb-fals
 use Rattle.field.specs.declared.tag.Form.{Form}
 use Rattle.field.specs.declared.tag.Form.the-variants.{Snapshot}
 use Rattle.field.specs.declared.verdict.Verdict.{Verdict}
-use Rattle.field.specs.declared.verdict.Verdict.the-variants.{Fine, Bad, NotAbove}
+use Rattle.field.specs.declared.verdict.Verdict.the-variants.{Fine, Bad, Senseless, NotAbove}
 use Rattle.field.specs.Verdict.{verdict}
 use Rattle.payload.specs.Content.{Bytes}
 use Rattle.payload.specs.Limit.{limit}
@@ -40,6 +40,7 @@ admitted-fine form s = go (leb (length s) (limit form)) (verdict form s)
     go : (t : Bool) (v : Verdict) → andThen (cond t Yes (No (TooLong 1))) (refusalOf 1 v) ≡ Yes → v ≡ Fine
     go true Fine e = refl
     go true (Bad at) e = never (cc)
+    go true (Senseless at) e = never (cc)
     go true (NotAbove at) e = never (cc)
     go false v e = never (cc)
 
@@ -61,10 +62,11 @@ input-ten form s = (go (leb (length s) (limit form)) refl (verdict form s), λ l
     go : (t : Bool) → leb (length s) (limit form) ≡ t → (v : Verdict) → andThen (cond t Yes (No (TooLong 1))) (refusalOf 1 v) ≡ No (TooLong 1) → limit form < length s
     go true p Fine e = never (cc)
     go true p (Bad at) e = never (cc)
+    go true p (Senseless at) e = never (cc)
     go true p (NotAbove at) e = never (cc)
     go false p v e = leb-false (length s) (limit form) p
 
--- else with 1 or 2 as the check says
+-- else with 1, 12 or 2 as the check says
 pub input-one : (form : Form) (s : Bytes) (at : ℕ) → admitOneOf form s ≡ No (refusal.Bad 1 at) ↔ (length s ≤ limit form) × (verdict form s ≡ Bad at)
 input-one form s at = (go (leb (length s) (limit form)) refl (verdict form s), λ e. rw (le-leb (length s) (limit form) (e .0), e .1))
   where
@@ -72,6 +74,18 @@ input-one form s at = (go (leb (length s) (limit form)) refl (verdict form s), �
         (length s ≤ limit form) × (v ≡ Bad at)
     go true p Fine e = never (cc)
     go true p (Bad at) e = (leb-true (length s) (limit form) p, cc)
+    go true p (Senseless at) e = never (cc)
+    go true p (NotAbove at) e = never (cc)
+    go false p v e = never (cc)
+
+pub input-twelve : (form : Form) (s : Bytes) (at : ℕ) → admitOneOf form s ≡ No (refusal.Senseless 1 at) ↔ (length s ≤ limit form) × (verdict form s ≡ Senseless at)
+input-twelve form s at = (go (leb (length s) (limit form)) refl (verdict form s), λ e. rw (le-leb (length s) (limit form) (e .0), e .1))
+  where
+    go : (t : Bool) → leb (length s) (limit form) ≡ t → (v : Verdict) → andThen (cond t Yes (No (TooLong 1))) (refusalOf 1 v) ≡ No (refusal.Senseless 1 at) →
+        (length s ≤ limit form) × (v ≡ Senseless at)
+    go true p Fine e = never (cc)
+    go true p (Bad at) e = never (cc)
+    go true p (Senseless at) e = (leb-true (length s) (limit form) p, cc)
     go true p (NotAbove at) e = never (cc)
     go false p v e = never (cc)
 
@@ -82,6 +96,7 @@ input-two form s at = (go (leb (length s) (limit form)) refl (verdict form s), �
         (length s ≤ limit form) × (v ≡ NotAbove at)
     go true p Fine e = never (cc)
     go true p (Bad at) e = never (cc)
+    go true p (Senseless at) e = never (cc)
     go true p (NotAbove at) e = (leb-true (length s) (limit form) p, cc)
     go false p v e = never (cc)
 
@@ -92,6 +107,7 @@ refusal-kind form s r = go (leb (length s) (limit form)) (verdict form s)
     go : (t : Bool) (v : Verdict) → andThen (cond t Yes (No (TooLong 1))) (refusalOf 1 v) ≡ No r → ¬ (r ≡ IllFormed) × ¬ (r ≡ StoreFull)
     go true Fine e = never (cc)
     go true (Bad at) e = (λ q. never (cc), λ q. never (cc))
+    go true (Senseless at) e = (λ q. never (cc), λ q. never (cc))
     go true (NotAbove at) e = (λ q. never (cc), λ q. never (cc))
     go false v e = (λ q. never (cc), λ q. never (cc))
 

@@ -14,7 +14,7 @@ use Rattle.change.specs.History.{lastN}
 use Rattle.change.proofs.Chain.{all-newest}
 use Rattle.serial.specs.declared.Serial.{Serial}
 use Rattle.field.specs.declared.tag.Form.the-variants.{Snapshot}
-use Rattle.field.specs.declared.verdict.Verdict.the-variants.{Bad, NotAbove}
+use Rattle.field.specs.declared.verdict.Verdict.the-variants.{Bad, Senseless, NotAbove}
 use Rattle.field.specs.Verdict.{verdict}
 use Rattle.field.specs.Run.{AllBytes}
 use Rattle.payload.specs.Content.{Bytes}
@@ -34,7 +34,7 @@ use Rattle.past.specs.WellFormed.{wellFormed}
 use Rattle.past.specs.Update.{Step, refuse, first, unchanged, add, deltasWith, stepFor, updateOf}
 use Rattle.past.specs.Run.{World, update, updated, replyOf, refusedUpdate, numbered, refusedAs, refusal}
 use Rattle.past.specs.Promise.{current, differencesIn, Room, Again, Updates}
-use Rattle.past.proofs.Steps.{fine-admitted, input-ten, input-one, input-two, step-add, step-first, step-unchanged, refused-step, first-step, same-step, changed-step, step-changed, input-refused, step-nine, unchanged-step, begins-step, first-nine, adds-step, later-nine}
+use Rattle.past.proofs.Steps.{fine-admitted, input-ten, input-one, input-twelve, input-two, step-add, step-first, step-unchanged, refused-step, first-step, same-step, changed-step, step-changed, input-refused, step-nine, unchanged-step, begins-step, first-nine, adds-step, later-nine}
 use Rattle.past.proofs.Invariant.{Waits, Holds, Inv, waits-formed, holds-formed, would-hold}
 use Rattle.past.proofs.Numbers.{through, update-refused}
 
@@ -80,6 +80,9 @@ module _ (w : World) (new : Bytes) where
 
     one : (at : ℕ) → refusedAs (replyOf w (update new)) ≡ refusal 1 1 at ↔ (length new ≤ limit Snapshot) × (verdict Snapshot new ≡ Bad at)
     one at = through (of-input (refusals.Bad 1 at) (λ e. never (cc))) (input-one Snapshot new at)
+
+    twelve : (at : ℕ) → refusedAs (replyOf w (update new)) ≡ refusal 12 1 at ↔ (length new ≤ limit Snapshot) × (verdict Snapshot new ≡ Senseless at)
+    twelve at = through (of-input (refusals.Senseless 1 at) (λ e. never (cc))) (input-twelve Snapshot new at)
 
     two : (at : ℕ) → refusedAs (replyOf w (update new)) ≡ refusal 2 1 at ↔ (length new ≤ limit Snapshot) × (verdict Snapshot new ≡ NotAbove at)
     two at = through (of-input (refusals.NotAbove 1 at) (λ e. never (cc))) (input-two Snapshot new at)
@@ -137,6 +140,7 @@ module _ (session keep : ℕ) (start : Serial) (w : World) (new : Bytes) (octets
     waits-updates = record {
       ten = ten w new (waits-formed i);
       one = one w new (waits-formed i);
+      twelve = twelve w new (waits-formed i);
       two = two w new (waits-formed i);
       nine = through (nine-step w new) (
         filled,
@@ -237,6 +241,7 @@ module _ (session keep : ℕ) (start : Serial) (w : World) (new : Bytes) (octets
     holds-updates = record {
       ten = ten w new (holds-formed i);
       one = one w new (holds-formed i);
+      twelve = twelve w new (holds-formed i);
       two = two w new (holds-formed i);
       nine = through (nine-step w new) (
         over,

@@ -17,7 +17,7 @@ use Rattle.serial.specs.declared.order.Standing.the-variants.{Equal, Before, Un
 use Rattle.serial.specs.Serial.{distanceOf, sessionOf}
 use Rattle.serial.specs.Rfc1982.{standing}
 use Rattle.field.specs.declared.tag.Form.the-variants.{Snapshot, Delta}
-use Rattle.field.specs.declared.verdict.Verdict.the-variants.{Bad, NotAbove}
+use Rattle.field.specs.declared.verdict.Verdict.the-variants.{Bad, Senseless, NotAbove}
 use Rattle.field.specs.Verdict.{verdict}
 use Rattle.field.specs.Run.{AllBytes}
 use Rattle.payload.specs.Content.{Bytes}
@@ -82,8 +82,9 @@ pub record Again (w : World) (given : List Bytes) (new : Bytes) : Type 0 where
 pub record Updates (keep : ℕ) (w : World) (given : List Bytes) (new : Bytes) : Type 0 where
   -- 10 exactly if it is over its length limit
   pub ten : refusedAs (replyOf w (update new)) ≡ refusal 10 1 0 ↔ limit Snapshot < length new
-  -- else 1 or 2 exactly as the check finds its first bad field
+  -- else 1, 12 or 2 exactly as the check finds its first bad field
   pub one : (at : ℕ) → refusedAs (replyOf w (update new)) ≡ refusal 1 1 at ↔ (length new ≤ limit Snapshot) × (verdict Snapshot new ≡ Bad at)
+  pub twelve : (at : ℕ) → refusedAs (replyOf w (update new)) ≡ refusal 12 1 at ↔ (length new ≤ limit Snapshot) × (verdict Snapshot new ≡ Senseless at)
   pub two : (at : ℕ) → refusedAs (replyOf w (update new)) ≡ refusal 2 1 at ↔ (length new ≤ limit Snapshot) × (verdict Snapshot new ≡ NotAbove at)
   -- else 9 exactly if it is not the current snapshot and a store has no room
   pub nine : refusedAs (replyOf w (update new)) ≡ refusal 9 0 0 ↔ Acceptable new × ¬ Again w given new × ¬ Room keep w given new

@@ -46,7 +46,7 @@ laterStep h d new snapshots deltas =
     (add d)
     (refuse StoreFull))
 
--- 7, then 10, 1 and 2 of the new snapshot, then 9
+-- 7, then 10, 1, 12 and 2 of the new snapshot, then 9
 abbrev pub admittedStep : Admitted → History → Bytes → Bytes → Bytes → Step
 admittedStep (No r) h new snapshots deltas = refuse r
 admittedStep Yes h new snapshots deltas =

@@ -17,6 +17,7 @@ use Rattle.past.specs.Store.{total, heldSnapshot, heldLengths, heldDelta
 abbrev pub isFine : Verdict → Bool
 isFine verdict.Fine = true
 isFine (verdict.Bad at) = false
+isFine (verdict.Senseless at) = false
 isFine (verdict.NotAbove at) = false
 
 -- a good snapshot, a good delta

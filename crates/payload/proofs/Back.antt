@@ -1,4 +1,4 @@
--- A good field is the field of what it says, and what it says is valid.
+-- A good field is the field of what it says; if it makes sense too, what it says is valid.
 use Prim.Native.Nat.{ℕ, _/_, _%_}
 use mathlib.Core.Path.{_≡_, refl, sym, ap, _∙_}
 use mathlib.Core.List.{[], _∷_, _++_, append-nil}
@@ -9,12 +9,12 @@ use lib.Seq.{drop-drop, drop-cons}
 use Rattle.change.specs.Change.{update}
 use Rattle.field.specs.declared.tag.Form.{Form}
 use Rattle.field.specs.declared.tag.Form.the-variants.{Snapshot, Delta}
-use Rattle.field.specs.Tag.{tagOf, kindOf, goodBody}
+use Rattle.field.specs.Tag.{tagOf, kindOf, goodBody, sensible}
 use Rattle.field.specs.Key.{keyOf}
-use Rattle.field.specs.Aspa.{goodAspa, goodUpdate, formerSize, formerOf, newOf}
+use Rattle.field.specs.Aspa.{goodAspa, goodUpdate, formerSize, formerOf, newOf, sensibleProviders, sensibleAspa, sensibleUpdate}
 use Rattle.field.specs.Cells.{Cell}
 use Rattle.field.specs.Run.{AllBytes}
-use Rattle.field.proofs.Sizes.{aspa-parts, UpdateParts, update-parts}
+use Rattle.field.proofs.Sizes.{both, aspa-parts, UpdateParts, update-parts}
 use Rattle.payload.specs.Content.{Bytes, countOf, entryOf, cellFor}
 use Rattle.payload.specs.Valid.{ValidValue, ValidChange, Valid, origin, routerKey, aspa, announced, withdrawn, updated}
 use Rattle.payload.proofs.Known as known
@@ -27,22 +27,25 @@ cell-path : {t u : ℕ} {b c : Bytes} → t ≡ u → b ≡ c → cell t b ≡ c
 cell-path p q = λ i. record { tag = p i; body = q i }
 
 -- the body of an ASPA: a customer of 4 bytes, then providers
-pub aspa-valid : (b : Bytes) → goodAspa b ≡ true → ValidValue (3 ∷ take 4 b) (drop 4 b)
-aspa-valid b h =
+pub aspa-valid : (b : Bytes) → goodAspa b ≡ true → sensibleAspa b ≡ true → ValidValue (3 ∷ take 4 b) (drop 4 b)
+unfolding sensibleAspa
+aspa-valid b h z =
     let p = aspa-parts b h in
     let k : length (take 4 b) ≡ 4 = simp length-take (omega (arith, p .customer)) in
-    aspa k (p .providers)
+    aspa k (p .providers) z
 
 -- the body of an update: a customer, a count, the former providers, the new ones
 module _ (b : Bytes) (h : goodUpdate b ≡ true) where
   parts : UpdateParts b
   parts = update-parts b h
 
-  pub update-valid : ValidChange (3 ∷ take 4 b) (update (formerOf b) (newOf b))
-  update-valid =
+  pub update-valid : sensibleUpdate b ≡ true → ValidChange (3 ∷ take 4 b) (update (formerOf b) (newOf b))
+  unfolding sensibleUpdate
+  update-valid z =
       let p = parts in
+      let q = both (sensibleProviders (take 4 b) (formerOf b)) _ z in
       let k : length (take 4 b) ≡ 4 = simp length-take (omega (arith, p .head)) in
-      updated (aspa k (p .former)) (aspa k (p .new))
+      updated (aspa k (p .former) (q .0)) (aspa k (p .new) (q .1))
 
   former-length : length (formerOf b) ≡ formerSize b
   former-length = simp (length-take, length-drop) (omega (arith, parts .head))
@@ -67,22 +70,22 @@ module _ (b : Bytes) (h : goodUpdate b ≡ true) where
       ∙ ap (λ (t : Bytes). take 4 b ++ t) (sym (d4 ∙ ap (λ (t : Bytes). getD b 4 0 ∷ t) d5))
       ∙ take-append-drop 4 b
 
--- what a good field says is valid
-valid-known : (form : Form) (tag : ℕ) (b : Bytes) → Known form tag → goodBody form tag b ≡ true → Valid form (entryOf form (cell tag b))
-unfolding goodBody tagOf kindOf keyOf
-valid-known Snapshot tag b known.origin h = origin h
-valid-known Snapshot tag b known.routerKey h = routerKey h
-valid-known Snapshot tag b known.aspa h = aspa-valid b h
-valid-known Delta tag b known.announcedOrigin h = announced (origin h)
-valid-known Delta tag b known.withdrawnOrigin h = withdrawn (origin h)
-valid-known Delta tag b known.announcedKey h = announced (routerKey h)
-valid-known Delta tag b known.withdrawnKey h = withdrawn (routerKey h)
-valid-known Delta tag b known.announcedAspa h = announced (aspa-valid b h)
-valid-known Delta tag b known.withdrawnAspa h = withdrawn (aspa-valid b h)
-valid-known Delta tag b known.updatedAspa h = update-valid b h
+-- what a good field that makes sense says is valid
+valid-known : (form : Form) (tag : ℕ) (b : Bytes) → Known form tag → goodBody form tag b ≡ true → sensible form tag b ≡ true → Valid form (entryOf form (cell tag b))
+unfolding goodBody sensible tagOf kindOf keyOf
+valid-known Snapshot tag b known.origin h z = origin h
+valid-known Snapshot tag b known.routerKey h z = routerKey h
+valid-known Snapshot tag b known.aspa h z = aspa-valid b h z
+valid-known Delta tag b known.announcedOrigin h z = announced (origin h)
+valid-known Delta tag b known.withdrawnOrigin h z = withdrawn (origin h)
+valid-known Delta tag b known.announcedKey h z = announced (routerKey h)
+valid-known Delta tag b known.withdrawnKey h z = withdrawn (routerKey h)
+valid-known Delta tag b known.announcedAspa h z = announced (aspa-valid b h z)
+valid-known Delta tag b known.withdrawnAspa h z = withdrawn (aspa-valid b h z)
+valid-known Delta tag b known.updatedAspa h z = update-valid b h z
 
-pub says-valid : (form : Form) (tag : ℕ) (b : Bytes) → goodBody form tag b ≡ true → Valid form (entryOf form (cell tag b))
-says-valid form tag b h = valid-known form tag b (known.known form tag b h) h
+pub says-valid : (form : Form) (tag : ℕ) (b : Bytes) → goodBody form tag b ≡ true → sensible form tag b ≡ true → Valid form (entryOf form (cell tag b))
+says-valid form tag b h z = valid-known form tag b (known.known form tag b h) h z
 
 -- a good field of bytes is the field of what it says
 back-known : (form : Form) (tag : ℕ) (b : Bytes) → AllBytes b → Known form tag → goodBody form tag b ≡ true →

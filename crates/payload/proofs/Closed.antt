@@ -71,7 +71,7 @@ module _ {K A B C : Type 0} {cmp : K → K → Ordering} (O : TotalOrder cmp) (f
 value-kind : {k v : Bytes} → ValidValue k v → (v ≡ []) ⊎ ((c : Bytes) × (k ≡ 3 ∷ c))
 value-kind (origin h) = inl refl
 value-kind (routerKey h) = inl refl
-value-kind (aspa {k = c} e h) = inr (c, refl)
+value-kind (aspa {k = c} e h z) = inr (c, refl)
 
 -- an update arises only where two different values are valid at one key
 update-valid : (k p n : Bytes) → ¬ (p ≡ n) → ValidValue k p → ValidValue k n → ValidChange k (update p n)

@@ -55,15 +55,15 @@ pub record Read (form : Form) (k s : Bytes) : Type 0 where
 
 pub read : (form : Form) {k s : Bytes} → Run form k s → Read form k s
 read form done = let e = entries-end form in record { above = rw e tt; sorted = rw e tt; valid = rw e tt }
-read form (more {s = s} tag b rest f g l r) =
+read form (more {s = s} tag b rest f g z l r) =
     let i : Read form (keyOf (kindOf form tag) b) rest = read form r in
     let e = entries-more form s tag b rest f in
-    record { above = rw e l; sorted = rw e (i .above, i .sorted); valid = rw e (says-valid form tag b g, i .valid) }
+    record { above = rw e l; sorted = rw e (i .above, i .sorted); valid = rw e (says-valid form tag b g z, i .valid) }
 
 -- and its cells are those of what they say
 cells-back : (form : Form) {k s : Bytes} → Run form k s → AllBytes s → map (cellFor form) (entries form s) ≡ cells s
 cells-back form done o = rw (entries-end form, cells-end)
-cells-back form (more {s = s} tag b rest f g l r) o =
+cells-back form (more {s = s} tag b rest f g z l r) o =
     let w : s ≡ field tag b ++ rest = field-front s tag b rest o f in
     rw (entries-more form s tag b rest f, cells-more s tag b rest f)
     (ap₂ (λ (c : Cell) (cs : List Cell). c ∷ cs) (says-back form tag b (body-bytes s tag b rest o w) g)
@@ -73,7 +73,7 @@ cells-back form (more {s = s} tag b rest f g l r) o =
 lowest-value : {k v : Bytes} → ValidValue k v → bytes (0 ∷ []) k ≡ Less
 lowest-value (origin h) = refl
 lowest-value (routerKey h) = refl
-lowest-value (aspa e h) = refl
+lowest-value (aspa e h z) = refl
 
 lowest-change : {k : Bytes} {c : Change Bytes} → ValidChange k c → bytes (0 ∷ []) k ≡ Less
 lowest-change (announced h) = lowest-value h
@@ -94,7 +94,7 @@ module _ (form : Form) where
       let e : keyOf (kindOf form (cellFor form x .tag)) (cellFor form x .body) ≡ x .key = ap (λ (y : Item Bytes (Content form)). y .key) (g .back) in
       let l : bytes k (keyOf (kindOf form (cellFor form x .tag)) (cellFor form x .body)) ≡ Less = rw e b in
       let r : Ascent form (keyOf (kindOf form (cellFor form x .tag)) (cellFor form x .body)) (map (cellFor form) xs) = rw e (ascent (x .key) xs (s .0) (s .1) (h .1)) in
-      next (g .good) l r
+      next (g .good) (g .sense) l r
 
   ascent-start : (xs : List (Item Bytes (Content form))) → IsMap form xs → Ascent form (0 ∷ []) (map (cellFor form) xs)
   ascent-start [] m = none

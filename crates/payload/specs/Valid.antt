@@ -10,14 +10,14 @@ use Rattle.field.specs.declared.tag.Form.{Form}
 use Rattle.field.specs.declared.tag.Form.the-variants.{Snapshot, Delta}
 use Rattle.field.specs.Origin.{goodOrigin}
 use Rattle.field.specs.RouterKey.{goodRouterKey}
-use Rattle.field.specs.Aspa.{goodProviders}
+use Rattle.field.specs.Aspa.{goodProviders, sensibleProviders}
 use Rattle.payload.specs.Content.{Bytes, Content}
 
 -- a key and a value that it can have
 pub data ValidValue : Bytes → Bytes → Type 0 where
   origin : {k : Bytes} → goodOrigin k ≡ true → ValidValue (1 ∷ k) []
   routerKey : {k : Bytes} → goodRouterKey k ≡ true → ValidValue (2 ∷ k) []
-  aspa : {k v : Bytes} → length k ≡ 4 → goodProviders v ≡ true → ValidValue (3 ∷ k) v
+  aspa : {k v : Bytes} → length k ≡ 4 → goodProviders v ≡ true → sensibleProviders k v ≡ true → ValidValue (3 ∷ k) v
 
 -- a key and a change that it can have: only ASPAs are updated
 pub data ValidChange : Bytes → Change Bytes → Type 0 where

@@ -137,7 +137,7 @@ same-body Changes form c = refl
 run-length : (reading : Reading) (form : Form) {k s : Bytes} → Run (formOf reading) k s → AllBytes s → length (writes form (readAs reading s)) ≡ length s
 unfolding width
 run-length reading form done o = rw (says-nil [] reading cells-end) (nil-length form)
-run-length reading form (more {s = s} tag b rest f g l r) o =
+run-length reading form (more {s = s} tag b rest f g z l r) o =
     let w : s ≡ field tag b ++ rest = field-front s tag b rest o f in
     let c : Cell = record { tag = tag; body = b } in
     let q : cellAs form (itemAs reading c) .body ≡ b = same-body reading form c ∙ ap (λ (x : Cell). x .body) (says-back (formOf reading) tag b (body-bytes s tag b rest o w) g) in

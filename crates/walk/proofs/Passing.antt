@@ -62,7 +62,7 @@ same-cell tag b o g = cell-path (snapshot-kind tag b g) (ap (λ (x : Cell). x .b
 run-bytes : {k s : Bytes} → Run Snapshot k s → AllBytes s → writes Snapshot (readAs Announced s) ≡ s
 unfolding encode
 run-bytes done o = rw (says-nil [] Announced cells-end)
-run-bytes (more {s = s} tag b rest f g l r) o =
+run-bytes (more {s = s} tag b rest f g z l r) o =
     let w : s ≡ field tag b ++ rest = field-front s tag b rest o f in
     let c : Cell = record { tag = tag; body = b } in
     let q : cellAs Snapshot (itemAs Announced c) ≡ c = same-cell tag b (body-bytes s tag b rest o w) g in

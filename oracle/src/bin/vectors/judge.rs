@@ -44,13 +44,13 @@ impl Judge {
         self.follow(call);
         match call.entry {
             Entry::Construct => {
-                if !matches!(outcome.answer.number, 1 | 2) {
+                if !matches!(outcome.answer.number, 1 | 2 | 12) {
                     let said = rust::construct(&call.bytes[0], &call.bytes[1], call.numbers[0] as u32);
                     self.same(made(said, call, &outcome), call);
                 }
             }
             Entry::Merge => {
-                if !matches!(outcome.answer.number, 1 | 2) {
+                if !matches!(outcome.answer.number, 1 | 2 | 12) {
                     let said = rust::merge(&call.bytes[0], &call.bytes[1], call.numbers[0] as u32);
                     self.same(made(Some(said), call, &outcome), call);
                 }
@@ -197,9 +197,9 @@ impl Judge {
         use Entry::*;
         let mut wanted: Vec<(Entry, u32, u32)> = vec![(Apply, 3, 2), (Create, 8, 0), (Full, 7, 0)];
         for entry in [Construct, Merge, Apply] {
-            wanted.extend([(1, 1), (1, 2), (2, 1), (2, 2), (4, 0)].map(|(n, a)| (entry, n, a)));
+            wanted.extend([(1, 1), (1, 2), (2, 1), (2, 2), (12, 1), (12, 2), (4, 0)].map(|(n, a)| (entry, n, a)));
         }
-        wanted.extend([(1, 1), (2, 1), (7, 0), (9, 0)].map(|(n, a)| (Update, n, a)));
+        wanted.extend([(1, 1), (2, 1), (12, 1), (7, 0), (9, 0)].map(|(n, a)| (Update, n, a)));
         wanted.extend([4, 5, 6, 7].map(|n| (Query, n, 0)));
         for refusal in wanted {
             assert!(self.refusals.contains(&refusal), "not met: {refusal:?}");

@@ -2,7 +2,7 @@
 use std::fmt::Write;
 
 use oracle::call::{Call, Entry, State};
-use oracle::damage::{damage, ill_form};
+use oracle::damage::{damage, damage_sense, ill_form};
 use oracle::make::{pairs, serial, Universe, World};
 use oracle::model::{self, Form, Snapshot};
 use oracle::rng::Rng;
@@ -91,6 +91,11 @@ pub fn cases() -> String {
         let universe = Universe::few(&mut rng, 2 + i % 3);
         list.check(&mut rng, &universe, i);
     }
+    list.part("senseless", "an ASPA that makes no sense in one argument");
+    for i in 0..60 {
+        let universe = Universe::few(&mut rng, 4 + i % 13);
+        list.senseless(&mut rng, &universe, i);
+    }
     list.part("timing", "times at their bounds and one off");
     for i in 0..60 {
         let edges = [0, 1, 600, 7_200, 86_400, 172_800, u32::MAX];
@@ -129,6 +134,22 @@ impl List {
                 call.bytes[which] = bad;
             }
         }
+        call.bytes[2] = room(rng, &call);
+        self.entry(&call);
+    }
+
+    fn senseless(&mut self, rng: &mut Rng, universe: &Universe, i: usize) {
+        let old = universe.snapshot(rng);
+        let new = model::snapshot_bytes(&universe.next(rng, &old));
+        let [earlier, later] = [(); 2].map(|_| model::delta_bytes(&universe.delta(rng)));
+        let old = model::snapshot_bytes(&old);
+        let (forms, mut call) = match i % 3 {
+            0 => ([Form::Snapshot; 2], Call::construct(old, new, serial(rng), vec![])),
+            1 => ([Form::Delta; 2], Call::merge(earlier, later, serial(rng), vec![])),
+            _ => ([Form::Snapshot, Form::Delta], Call::apply(old, later, vec![])),
+        };
+        let which = i / 3 % 2;
+        call.bytes[which] = damage_sense(rng, forms[which], &call.bytes[which]);
         call.bytes[2] = room(rng, &call);
         self.entry(&call);
     }
@@ -191,9 +212,9 @@ pub fn runs() -> String {
     list.text
 }
 
-/// A snapshot of one ASPA.
+/// A snapshot of one ASPA, of the customer 64500.
 fn aspa(provider: u32) -> String {
-    pack(&[&[3, 0, 8, 0, 0, 0, 1], &provider.to_be_bytes()[..]].concat())
+    pack(&[&[3, 0, 8, 0, 0, 0xFB, 0xF4], &provider.to_be_bytes()[..]].concat())
 }
 
 fn words<const N: usize>(numbers: [u64; N]) -> Vec<String> {

@@ -33,17 +33,29 @@ returns-2 c = search (judging, further, needs)
 enum-known-tag : tie.Need-enum-known-tag Inv-loop μ-loop
 enum-known-tag c = search (judging, further, needs)
 
-sub-body-ok : tie.Need-sub-body-ok Inv-loop μ-loop
-sub-body-ok c = search (judging, further, needs)
+sub-body-sound : tie.Need-sub-body-sound Inv-loop μ-loop
+sub-body-sound c = search (judging, further, needs)
 
-part-body-ok-start : tie.Need-part-body-ok-start Inv-loop μ-loop
-part-body-ok-start c = search (judging, further, needs)
+part-body-sound-start : tie.Need-part-body-sound-start Inv-loop μ-loop
+part-body-sound-start c = search (judging, further, needs)
 
-part-body-ok-end : tie.Need-part-body-ok-end Inv-loop μ-loop
-part-body-ok-end c = search (judging, further, needs)
+part-body-sound-end : tie.Need-part-body-sound-end Inv-loop μ-loop
+part-body-sound-end c = search (judging, further, needs)
 
-body-ok-requires : tie.Need-body-ok-requires Inv-loop μ-loop
-body-ok-requires c κs = search (judging, further, needs)
+body-sound-requires : tie.Need-body-sound-requires Inv-loop μ-loop
+body-sound-requires c κs = search (judging, further, needs)
+
+sub-refused : tie.Need-sub-refused Inv-loop μ-loop
+sub-refused c = search (judging, further, needs)
+
+part-refused-start : tie.Need-part-refused-start Inv-loop μ-loop
+part-refused-start c = search (judging, further, needs)
+
+part-refused-end : tie.Need-part-refused-end Inv-loop μ-loop
+part-refused-end c = search (judging, further, needs)
+
+refused-requires : tie.Need-refused-requires Inv-loop μ-loop
+refused-requires c κs = search (judging, further, needs)
 
 returns-3 : tie.Need-returns-3 Inv-loop μ-loop
 returns-3 c = search (judging, further, needs)
@@ -94,10 +106,14 @@ check-spec =
     enum-told-2
     returns-2
     enum-known-tag
-    sub-body-ok
-    part-body-ok-start
-    part-body-ok-end
-    body-ok-requires
+    sub-body-sound
+    part-body-sound-start
+    part-body-sound-end
+    body-sound-requires
+    sub-refused
+    part-refused-start
+    part-refused-end
+    refused-requires
     returns-3
     kind-of-requires
     key-at-requires

@@ -21,17 +21,17 @@ kind-of-requires c κs = search (reaching, needs)
 returns : tie.Need-returns
 returns c = search (reaching, needs)
 
-sub-body-ok : tie.Need-sub-body-ok
-sub-body-ok c = search (reaching, needs)
+sub-body-sound : tie.Need-sub-body-sound
+sub-body-sound c = search (reaching, needs)
 
-part-body-ok-start : tie.Need-part-body-ok-start
-part-body-ok-start c = search (reaching, needs)
+part-body-sound-start : tie.Need-part-body-sound-start
+part-body-sound-start c = search (reaching, needs)
 
-part-body-ok-end : tie.Need-part-body-ok-end
-part-body-ok-end c = search (reaching, needs)
+part-body-sound-end : tie.Need-part-body-sound-end
+part-body-sound-end c = search (reaching, needs)
 
-body-ok-requires : tie.Need-body-ok-requires
-body-ok-requires c κs = search (reaching, needs)
+body-sound-requires : tie.Need-body-sound-requires
+body-sound-requires c κs = search (reaching, needs)
 
 returns-2 : tie.Need-returns-2
 returns-2 c = search (reaching, needs)
@@ -55,10 +55,10 @@ good-end-spec =
     enum-known-tag
     kind-of-requires
     returns
-    sub-body-ok
-    part-body-ok-start
-    part-body-ok-end
-    body-ok-requires
+    sub-body-sound
+    part-body-sound-start
+    part-body-sound-end
+    body-sound-requires
     returns-2
     returns-3
     returns-4

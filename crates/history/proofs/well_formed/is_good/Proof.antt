@@ -15,6 +15,9 @@ enum-told-2 c = search (judging, needs)
 enum-told-3 : tie.Need-enum-told-3
 enum-told-3 c = search (judging, needs)
 
+enum-told-4 : tie.Need-enum-told-4
+enum-told-4 c = search (judging, needs)
+
 returns : tie.Need-returns
 returns c = search (judging, needs)
 
@@ -24,7 +27,19 @@ returns-2 c = search (judging, needs)
 returns-3 : tie.Need-returns-3
 returns-3 c = search (judging, needs)
 
+returns-4 : tie.Need-returns-4
+returns-4 c = search (judging, needs)
+
 pub is-good-spec : {M : Type 1} → statement M
 is-good-spec =
     tie.close
-    (tie.spec check-requires enum-told enum-told-2 enum-told-3 returns returns-2 returns-3)
+    (tie.spec
+    check-requires
+    enum-told
+    enum-told-2
+    enum-told-3
+    enum-told-4
+    returns
+    returns-2
+    returns-3
+    returns-4)
