@@ -5,8 +5,9 @@
 //! two-byte big-endian length and a body, in strictly ascending order.
 //!
 //! The work is done by a proved library, linked as a static archive; this crate wraps its C
-//! interface. Nothing here allocates but [`History::new`], and no call ever panics on its input: bad
-//! input is a [`Refusal`] that says what is wrong and where, and leaves every byte as it was.
+//! interface. Nothing here allocates but [`History::new`] and [`History::starting_at`], and no call
+//! ever panics on its input: bad input is a [`Refusal`] that says what is wrong and where, and leaves
+//! every byte as it was.
 //!
 //! ```
 //! use taplevung::{apply, construct, Constructed, Refusal, Serial};
