@@ -277,7 +277,11 @@ impl List {
         self.questions(rng, &world);
         for snapshot in &snapshots {
             let new = model::snapshot_bytes(snapshot);
-            let new = if rng.one_in(8) { damage(rng, Form::Snapshot, &new).1 } else { new };
+            let new = match rng.below(16) {
+                0 | 1 => damage(rng, Form::Snapshot, &new).1,
+                2 => damage_sense(rng, Form::Snapshot, &new),
+                _ => new,
+            };
             if new.len() >= 600 {
                 continue;
             }
