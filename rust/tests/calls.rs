@@ -111,7 +111,7 @@ fn a_history() {
     assert_eq!((served.session, served.delta.serial, served.delta.announced), (Session(2), Serial(3), 1));
     assert_eq!(history.query(Session(2), Serial(3), &mut out).unwrap().delta.length, 0);
     let both = history.query(Session(2), Serial(1), &mut out).unwrap().delta;
-    assert_eq!(out[..both.length], *b"\x33\x00\x0e\0\0\0\x01\0\x01\0\0\0\x02\0\0\0\x04");
+    assert_eq!(out[..both.length], *b"\x33\x00\x0e\0\0\0\x01\0\x01\0\0\0\x03\0\0\0\x05");
     assert_eq!(history.query(Session(2), Serial(0), &mut out), Err(Refusal::NotServed));
 }
 
