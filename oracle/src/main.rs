@@ -11,7 +11,8 @@ use std::time::{Duration, Instant};
 use oracle::call::{Answer, Call, Entry, Outcome, State};
 use oracle::damage::{damage, ill_form, DAMAGES};
 use oracle::field::put;
-use oracle::make::{output, room, serial, Universe, World};
+use oracle::make::{output, room, serial, times, Universe, World};
+use oracle::message::Router;
 use oracle::model::{self, Change, Delta, Form, Snapshot, DELTA_LIMIT, SNAPSHOT_LIMIT};
 use oracle::port::Port;
 use oracle::rng::Rng;
@@ -68,6 +69,8 @@ struct Run {
     reached: u64,
     /// Times that the Rust left an expire that is not larger than refresh and retry, a known difference (E5).
     raised: u64,
+    /// Messages that a router read, and then held what the snapshot says.
+    read: u64,
 }
 
 impl Run {
@@ -85,6 +88,7 @@ impl Run {
             known: 0,
             reached: 0,
             raised: 0,
+            read: 0,
         }
     }
 
@@ -94,6 +98,7 @@ impl Run {
 
     fn all(&mut self, cases: u64) -> Checked {
         self.limits()?;
+        self.every_room()?;
         let (start, mut told) = (Instant::now(), Instant::now());
         while self.calls() < cases {
             self.round += 1;
@@ -105,7 +110,8 @@ impl Run {
                 530..=569 => self.chain(&mut rng)?,
                 570..=571 => self.history(&mut rng)?,
                 572..=859 => self.damaged(&mut rng)?,
-                860..=979 => self.ill_formed(&mut rng)?,
+                860..=959 => self.ill_formed(&mut rng)?,
+                960..=983 => self.messages(&mut rng)?,
                 _ => self.numbers(&mut rng)?,
             }
             if told.elapsed() > Duration::from_secs(10) {
@@ -122,13 +128,14 @@ impl Run {
     fn summary(&self) -> String {
         let kinds: Vec<String> = self.kinds.iter().map(|(k, n)| format!("{k} {n}")).collect();
         format!(
-            "all equal: {} calls ({}), {} of them with the Rust too, K6 met {} times, E2 {} times, E5 {} times, seed {}",
+            "all equal: {} calls ({}), {} of them with the Rust too, K6 met {} times, E2 {} times, E5 {} times, {} answers read by a router, seed {}",
             self.calls(),
             kinds.join(", "),
             self.rust,
             self.known,
             self.reached,
             self.raised,
+            self.read,
             self.seed
         )
     }
@@ -144,7 +151,7 @@ impl Run {
             return Err(self.explain(call));
         }
         *self.kinds.entry(self.kind).or_default() += 1;
-        if want.answer.kind == 0 && want.answer.number != 0 {
+        if want.answer.number != 0 {
             *self.refusals.entry((call.entry, want.answer.number, want.answer.argument)).or_default() += 1;
         }
         Ok(want)
@@ -290,6 +297,7 @@ impl Run {
         let created = self.compare(&Call::create(session, keep, start, snapshots.clone(), deltas.clone()))?;
         let mut world = World { state: created.state, snapshots, deltas };
         let rust = RustHistory::new(keep, start);
+        let mut carried = BTreeMap::from([(start, Snapshot::new())]);
         let steps = if rng.one_in(10) { 90 } else { rng.below(12) };
         for _ in 0..steps {
             let next = bytes(&universe.next(rng, &world.now()));
@@ -303,6 +311,8 @@ impl Run {
             world = World { state: outcome.state, snapshots, deltas };
             self.with_rust(rust.update(&next, outcome.answer.kind), &call)?;
             self.questions(rng, &world, &rust)?;
+            carried.insert(world.state.newest, world.now());
+            self.routers(rng, &world, &carried)?;
             if rng.one_in(4) {
                 // any number but 0 is active, and unused lengths are ignored
                 world.state.active = 1 + rng.below(9) as u32;
@@ -377,6 +387,83 @@ impl Run {
         Ok(())
     }
 
+    /// Routers read the messages: one that asks for everything, and some that hold the snapshot which most recently
+    /// carried the serial that they ask for. Each ends with what the current one says.
+    fn routers(&mut self, rng: &mut Rng, world: &World, carried: &BTreeMap<u32, Snapshot>) -> Checked {
+        self.kind = "messages";
+        let State { session, newest, n, .. } = world.state;
+        let (session, asked) = (session as u16, times(rng));
+        let (refresh, retry, expire) = model::timing(asked[0], asked[1], asked[2]);
+        let held = Router::holding(&world.now()).held;
+        let now = Router { held, session, serial: newest, times: [refresh, retry, expire] };
+        self.reads(&room(rng, world.full_messages(asked)), &Snapshot::new(), &now)?;
+        for d in [0, 1, rng.below(n as usize + 2) as u32, n, n + 1] {
+            let serial = newest.wrapping_sub(d);
+            let held = carried.get(&serial).cloned().unwrap_or_default();
+            self.reads(&room(rng, world.query_messages(session, serial, asked)), &held, &now)?;
+        }
+        self.kind = "history";
+        Ok(())
+    }
+
+    /// A router that holds a snapshot reads what a call wrote, if it wrote data, and is then `now`.
+    fn reads(&mut self, call: &Call, held: &Snapshot, now: &Router) -> Checked {
+        let outcome = self.compare(call)?;
+        if outcome.answer.kind == 1 {
+            let mut router = Router::holding(held);
+            let read = router.take(&answered(outcome));
+            if read.is_err() || router != *now {
+                return Err(format!("DIFFERENCE (messages): {read:?}, and the router is {router:?}\n{call}"));
+            }
+            self.read += 1;
+        }
+        Ok(())
+    }
+
+    /// The messages of any good history, at any session and room.
+    fn messages(&mut self, rng: &mut Rng) -> Checked {
+        self.kind = "messages";
+        let universe = Universe::new(rng);
+        let world = World::new(rng, &universe);
+        let session = if rng.one_in(4) { rng.next() } else { world.state.session } as u16;
+        let behind = rng.below(world.state.n as usize + 3) as u32;
+        let times = times(rng);
+        let query = world.query_messages(session, world.state.newest.wrapping_sub(behind), times);
+        for call in [query, world.full_messages(times), Call::notify_message(world.state, vec![])] {
+            self.compare(&room(rng, call))?;
+        }
+        Ok(())
+    }
+
+    /// The messages of one history with each room from none to more than enough.
+    fn every_room(&mut self) -> Checked {
+        self.kind = "messages";
+        let universe = Universe::fixed();
+        let mut rng = Rng::new(self.seed, 0);
+        let mut world = World::new(&mut rng, &universe);
+        while world.state.n < 2 {
+            world = World::new(&mut rng, &universe);
+        }
+        let (session, newest) = (world.state.session as u16, world.state.newest);
+        for call in [
+            world.query_messages(session, newest.wrapping_sub(2), [3600, 600, 7200]),
+            world.query_messages(session, newest.wrapping_add(1), [3600, 600, 7200]),
+            world.query_messages(!session, newest, [3600, 600, 7200]),
+            world.full_messages([3600, 600, 7200]),
+            Call::notify_message(world.state, vec![]),
+        ] {
+            for room in 0.. {
+                let mut call = call.clone();
+                call.bytes[2] = vec![0xEE; room];
+                let answer = self.compare(&call)?.answer;
+                if answer.kind != 0 && answer.length as usize + 2 == room {
+                    break;
+                }
+            }
+        }
+        Ok(())
+    }
+
     fn damaged(&mut self, rng: &mut Rng) -> Checked {
         self.kind = "damage";
         let universe = Universe::new(rng);
@@ -433,7 +520,11 @@ impl Run {
         let new = if rng.one_in(3) { damage(rng, Form::Snapshot, &new).1 } else { new };
         let mut query = world.query(session, state.newest.wrapping_sub(behind));
         query.bytes[2] = vec![0xEE; [0, 30, 5000][rng.below(3)]];
-        for call in [world.update(new), query, world.full()] {
+        let messages = match rng.below(2) {
+            0 => Call::query_messages(query.clone(), times(rng)),
+            _ => Call::full_messages(world.full(), times(rng), query.bytes[2].clone()),
+        };
+        for call in [world.update(new), query, world.full(), messages] {
             if self.compare(&call)?.answer.number == 7 {
                 *self.damages.entry(name).or_default() += 1;
             }
@@ -464,6 +555,7 @@ impl Run {
         };
         self.compare(&Call::notify(state))?;
         self.compare(&Call::ready(state))?;
+        self.compare(&Call::notify_message(state, vec![7; 10 + rng.below(4)]))?;
         let near = |rng: &mut Rng| {
             let edge = *rng.pick(&[0, 1, 600, 7_200, 86_400, 172_800, u32::MAX]);
             edge.wrapping_add(rng.below(3) as u32).wrapping_sub(1)
@@ -521,6 +613,15 @@ impl Run {
         let last = self.compare(&Call::update(first.state, new, snapshots, deltas))?;
         let [_, snapshots, deltas] = last.bytes;
         self.compare(&Call::query(last.state, 9, 0, snapshots, deltas, vec![0; made.len()]))?;
+
+        // as many origins as a snapshot can hold: their messages are longer than it
+        let (count, none) = (snap / 26, vec![0; 0]);
+        let origins: Vec<u8> = (0..count as u32).flat_map(origin6).collect();
+        let length = origins.len() as u32;
+        let full = Call::full(State { active: 1, snapshot: length, ..inactive }, origins, none);
+        for room in [32 * count + 32, 32 * count + 31] {
+            self.compare(&Call::full_messages(full.clone(), [0, 0, 0], vec![0; room]))?;
+        }
         Ok(())
     }
 
@@ -557,6 +658,13 @@ impl Run {
             (Query, 6, 0, 500),
             (Query, 7, 0, 500),
             (Full, 7, 0, 500),
+            (QueryMessages, 4, 0, 500),
+            (QueryMessages, 5, 0, 200),
+            (QueryMessages, 6, 0, 500),
+            (QueryMessages, 7, 0, 500),
+            (FullMessages, 4, 0, 500),
+            (FullMessages, 7, 0, 500),
+            (NotifyMessage, 4, 0, 500),
             // from the fixed list alone
             (Construct, 10, 1, 1),
             (Construct, 10, 2, 1),
@@ -588,6 +696,7 @@ impl Run {
         for name in DAMAGES.iter().map(|(name, _)| name).chain(ILL) {
             enough(format!("\"{name}\""), self.damages.get(name), 100)?;
         }
+        enough("a router that reads messages".into(), Some(&self.read), 5000)?;
         if cfg!(routinator) && [self.known, self.reached, self.raised].contains(&0) {
             return Err("too few cases: K6, E2 or E5 was not met".into());
         }
@@ -603,6 +712,13 @@ fn bytes(snapshot: &Snapshot) -> Vec<u8> {
 fn answered(outcome: Outcome) -> Vec<u8> {
     let [_, _, mut out] = outcome.bytes;
     out.truncate(outcome.answer.length as usize);
+    out
+}
+
+/// The field of an IPv6 origin of this AS number.
+fn origin6(asn: u32) -> Vec<u8> {
+    let mut out = vec![];
+    put(&mut out, 1, &[&[6, 0x20, 1, 0x0d, 0xb8], &[0; 12], &[32, 48], &asn.to_be_bytes()]);
     out
 }
 

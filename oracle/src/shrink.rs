@@ -106,10 +106,10 @@ fn smaller(call: &Call) -> Vec<Call> {
         }
     }
     // numbers
-    for i in 0..3 {
+    for i in 0..call.numbers.len() {
         step(&|c| c.numbers[i] = 0);
     }
-    if call.entry != Entry::Query {
+    if !matches!(call.entry, Entry::Query | Entry::QueryMessages) {
         step(&|c| c.state.session = 0);
     }
     if call.state != State::ZERO && call.state.n <= 64 {
