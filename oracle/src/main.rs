@@ -45,6 +45,9 @@ fn main() -> ExitCode {
     }
 }
 
+/// The snapshot that most recently carried a serial.
+type Carried = BTreeMap<u32, Snapshot>;
+
 /// A difference, in words; or something that was not met often enough.
 type Checked<T = ()> = Result<T, String>;
 
@@ -297,7 +300,7 @@ impl Run {
         let created = self.compare(&Call::create(session, keep, start, snapshots.clone(), deltas.clone()))?;
         let mut world = World { state: created.state, snapshots, deltas };
         let rust = RustHistory::new(keep, start);
-        let mut carried = BTreeMap::from([(start, Snapshot::new())]);
+        let mut carried = Carried::from([(start, Snapshot::new())]);
         let steps = if rng.one_in(10) { 90 } else { rng.below(12) };
         for _ in 0..steps {
             let next = bytes(&universe.next(rng, &world.now()));
@@ -312,7 +315,7 @@ impl Run {
             self.with_rust(rust.update(&next, outcome.answer.kind), &call)?;
             self.questions(rng, &world, &rust)?;
             carried.insert(world.state.newest, world.now());
-            self.routers(rng, &world, &carried)?;
+            self.routers(rng, &world, &carried, &rust)?;
             if rng.one_in(4) {
                 // any number but 0 is active, and unused lengths are ignored
                 world.state.active = 1 + rng.below(9) as u32;
@@ -389,35 +392,38 @@ impl Run {
 
     /// Routers read the messages: one that asks for everything, and some that hold the snapshot which most recently
     /// carried the serial that they ask for. Each ends with what the current one says.
-    fn routers(&mut self, rng: &mut Rng, world: &World, carried: &BTreeMap<u32, Snapshot>) -> Checked {
+    fn routers(&mut self, rng: &mut Rng, world: &World, carried: &Carried, rust: &RustHistory) -> Checked {
         self.kind = "messages";
         let State { session, newest, n, .. } = world.state;
         let (session, asked) = (session as u16, times(rng));
         let (refresh, retry, expire) = model::timing(asked[0], asked[1], asked[2]);
         let held = Router::holding(&world.now()).held;
         let now = Router { held, session, serial: newest, times: [refresh, retry, expire] };
-        self.reads(&room(rng, world.full_messages(asked)), &Snapshot::new(), &now)?;
+        self.reads(&room(rng, world.full_messages(asked)), &Snapshot::new(), &now, None)?;
         for d in [0, 1, rng.below(n as usize + 2) as u32, n, n + 1] {
             let serial = newest.wrapping_sub(d);
             let held = carried.get(&serial).cloned().unwrap_or_default();
-            self.reads(&room(rng, world.query_messages(session, serial, asked)), &held, &now)?;
+            let call = room(rng, world.query_messages(session, serial, asked));
+            self.reads(&call, &held, &now, rust.shown(serial))?;
         }
         self.kind = "history";
         Ok(())
     }
 
-    /// A router that holds a snapshot reads what a call wrote, if it wrote data, and is then `now`.
-    fn reads(&mut self, call: &Call, held: &Snapshot, now: &Router) -> Checked {
+    /// A router that holds a snapshot reads what a call wrote, if it wrote data, and is then `now`. What it reads is what the
+    /// Rust shows to a server, where that serves.
+    fn reads(&mut self, call: &Call, held: &Snapshot, now: &Router, shown: Option<Shown>) -> Checked {
         let outcome = self.compare(call)?;
-        if outcome.answer.kind == 1 {
-            let mut router = Router::holding(held);
-            let read = router.take(&answered(outcome));
-            if read.is_err() || router != *now {
-                return Err(format!("DIFFERENCE (messages): {read:?}, and the router is {router:?}\n{call}"));
-            }
-            self.read += 1;
+        if outcome.answer.kind != 1 {
+            return Ok(());
         }
-        Ok(())
+        let mut router = Router::holding(held);
+        let read = router.take(&answered(outcome));
+        if read.is_err() || router != *now {
+            return Err(format!("DIFFERENCE (messages): {read:?}, and the router is {router:?}\n{call}"));
+        }
+        self.read += 1;
+        self.with_rust(shown.map(|shown| read == Ok(shown)), call)
     }
 
     /// The messages of any good history, at any session and room.
@@ -747,6 +753,9 @@ fn served(answer: &Answer, out: &[u8]) -> oracle::rust::Served {
     }
 }
 
+/// Items announced (true) and withdrawn, in order.
+type Shown = Vec<(bool, model::Key)>;
+
 /// Routinator's history beside the library's. Each comparison says whether they agree, and nothing where
 /// the Rust is not there.
 struct RustHistory {
@@ -768,6 +777,12 @@ impl RustHistory {
         Some(self.history.full() == (serial, held.to_vec(), notified, ready))
     }
 
+    /// The origins and router keys that a server is shown for a router at `asked`.
+    fn shown(&self, asked: u32) -> Option<Shown> {
+        let items = self.history.shown_since(asked)?.into_iter().filter(|(kind, ..)| *kind != 3);
+        Some(items.map(|(kind, announce, body)| (announce, [&[kind][..], &body].concat())).collect())
+    }
+
     /// On a router at `asked`, which was served `said` or nothing.
     fn since(&self, asked: u32, said: Option<(&Answer, &[u8])>) -> Option<bool> {
         let want = said.map(|(answer, out)| served(answer, out));
@@ -785,6 +800,9 @@ impl RustHistory {
         None
     }
     fn full(&self, _: u32, _: &[u8], _: u32, _: bool) -> Option<bool> {
+        None
+    }
+    fn shown(&self, _: u32) -> Option<Shown> {
         None
     }
     fn since(&self, _: u32, _: Option<(&Answer, &[u8])>) -> Option<bool> {

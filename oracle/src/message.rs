@@ -96,9 +96,10 @@ impl Router {
         Router { held: snapshot.keys().filter(|k| k[0] != 3).cloned().collect(), ..Self::default() }
     }
 
-    /// Takes the messages of an answer one after another, or says what is wrong with one of them.
-    pub fn take(&mut self, mut bytes: &[u8]) -> Result<(), String> {
-        let mut first = true;
+    /// Takes the messages of an answer one after another, or says what is wrong with one of them. What was announced
+    /// (true) and withdrawn, in order.
+    pub fn take(&mut self, mut bytes: &[u8]) -> Result<Vec<(bool, Key)>, String> {
+        let (mut first, mut taken) = (true, vec![]);
         loop {
             let &[version, kind, high, low, l0, l1, l2, l3, ..] = bytes else {
                 return Err("cut short".into());
@@ -109,39 +110,41 @@ impl Router {
             if version != VERSION || first != (kind == 3) {
                 return Err(format!("version {version}, type {kind}"));
             }
-            match (kind, body.len()) {
-                (3, 0) => self.session = two,
-                (4, 12) if two == 0 => {
-                    self.change(
-                        body[0],
-                        &[&[1, 4], &body[4..8], &[0; 12], &body[1..3], &body[8..]],
-                        body[3],
-                    )?;
+            let record = match (kind, body.len()) {
+                (3, 0) => {
+                    self.session = two;
+                    None
                 }
-                (6, 24) if two == 0 => {
-                    self.change(body[0], &[&[1, 6], &body[4..20], &body[1..3], &body[20..]], body[3])?;
+                (4, 12) if two == 0 && body[3] == 0 => {
+                    Some((body[0], [&[1, 4], &body[4..8], &[0; 12], &body[1..3], &body[8..]].concat()))
                 }
-                (9, 24..) => self.change(high, &[&[2], body], low)?,
+                (6, 24) if two == 0 && body[3] == 0 => {
+                    Some((body[0], [&[1, 6], &body[4..20], &body[1..3], &body[20..]].concat()))
+                }
+                (9, 24..) if low == 0 => Some((high, [&[2], body].concat())),
                 (7, 16) if two == self.session && bytes.len() == length => {
                     let number = |i: usize| u32::from_be_bytes(body[i..i + 4].try_into().expect("4 bytes"));
                     (self.serial, self.times) = (number(0), [number(4), number(8), number(12)]);
-                    return Ok(());
+                    return Ok(taken);
                 }
                 _ => return Err(format!("type {kind} of {length} bytes, with {two}")),
+            };
+            if let Some((flags, key)) = record {
+                taken.push((self.change(flags, &key)?, key));
             }
             (first, bytes) = (false, &bytes[length..]);
         }
     }
 
     /// An announcement must be new, a withdrawal of something held.
-    fn change(&mut self, flags: u8, parts: &[&[u8]], zero: u8) -> Result<(), String> {
-        let key = parts.concat();
+    fn change(&mut self, flags: u8, key: &Key) -> Result<bool, String> {
         let changed = match flags {
-            0 => self.held.remove(&key),
-            _ => self.held.insert(key.clone()),
+            0 => self.held.remove(key),
+            1 => self.held.insert(key.clone()),
+            _ => false,
         };
-        match changed && flags <= 1 && zero == 0 {
-            true => Ok(()),
+        match changed {
+            true => Ok(flags == 1),
             false => Err(format!("flags {flags} on {key:02x?}")),
         }
     }
