@@ -209,6 +209,9 @@ impl Outcome {
     }
 }
 
+/// Of a long slice the start alone.
 fn hex(bytes: &[u8]) -> String {
-    bytes.iter().map(|b| format!("{b:02x}")).collect()
+    let shown = if bytes.len() > 1 << 20 { &bytes[..64] } else { bytes };
+    let more = if shown.len() < bytes.len() { ".." } else { "" };
+    shown.iter().map(|b| format!("{b:02x}")).collect::<String>() + more
 }

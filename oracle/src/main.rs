@@ -100,8 +100,8 @@ impl Run {
     }
 
     fn all(&mut self, cases: u64) -> Checked {
-        self.limits()?;
         self.every_room()?;
+        self.limits()?;
         let (start, mut told) = (Instant::now(), Instant::now());
         while self.calls() < cases {
             self.round += 1;

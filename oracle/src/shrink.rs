@@ -3,8 +3,18 @@ use crate::call::{Call, Entry, State};
 use crate::field::pieces;
 use crate::model;
 
+/// Calls with more bytes are left as they are: each step is a copy.
+const LONG: usize = 1 << 20;
+
+fn size(call: &Call) -> usize {
+    call.bytes.iter().map(Vec::len).sum()
+}
+
 /// Takes the first smaller call that still differs, again and again.
 pub fn shrink(mut call: Call, mut differs: impl FnMut(&Call) -> bool) -> Call {
+    if size(&call) > LONG {
+        return call;
+    }
     let mut tries = 20_000;
     'again: loop {
         for smaller in smaller(&call) {
@@ -27,7 +37,6 @@ fn smaller(call: &Call) -> Vec<Call> {
     let mut step = |change: &dyn Fn(&mut Call)| {
         let mut next = call.clone();
         change(&mut next);
-        let size = |c: &Call| c.bytes.iter().map(Vec::len).sum::<usize>();
         if size(&next) < size(call) || next.numbers != call.numbers || next.state != call.state {
             out.push(next);
         }
