@@ -140,7 +140,7 @@ module _ (h : History) (snapshots deltas : Bytes) (e : wellFormed h snapshots de
       omega (arith, leb-true (h .n) (h .keep) (a .1), leb-true (h .keep) 64 (b .1))
 
   -- with no deltas F is the start serial
-  formed-serial : h .n ≡ 0 → h .newest .0 ≡ h .start .0
+  pub formed-serial : h .n ≡ 0 → h .newest .0 ≡ h .start .0
   formed-serial z = go (h .active) (rw z at (split .0 .1))
     where
       go : (t : Bool) → cond t (cond (eqb 0 0) (eqb (h .newest .0) (h .start .0)) true) (eqb (h .newest .0) (h .start .0)) ≡ true → h .newest .0 ≡ h .start .0
