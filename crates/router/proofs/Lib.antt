@@ -1,0 +1,4 @@
+pub mod Trip
+pub mod Heard
+pub mod Routers
+pub mod Octets
