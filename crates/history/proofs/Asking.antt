@@ -111,7 +111,7 @@ both : (a b : Bool) → (a && b) ≡ true → (a ≡ true) × (b ≡ true)
 both true b e = (refl, e)
 both false b e = absurd (let z : _≡_ {A = ℕ} 0 1 = cc in omega arith)
 
-fine-true : (v : Verdict) → isFine v ≡ true → v ≡ verdict.Fine
+pub fine-true : (v : Verdict) → isFine v ≡ true → v ≡ verdict.Fine
 fine-true verdict.Fine e = refl
 fine-true (verdict.Bad at) e = absurd (let z : _≡_ {A = ℕ} 0 1 = cc in omega arith)
 fine-true (verdict.Senseless at) e = absurd (let z : _≡_ {A = ℕ} 0 1 = cc in omega arith)

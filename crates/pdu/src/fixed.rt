@@ -24,14 +24,7 @@ fn long(x: u32) -> usize
 }
 
 // The header of a message that names a session.
-fn put_session(
-    version: Version,
-    kind: u8,
-    session: Session,
-    size: usize,
-    out: &mut [u8],
-    i: usize,
-)
+fn put_session(version: Version, kind: u8, session: Session, size: usize, out: &mut [u8], i: usize)
     requires { ⌜ (i + 8 ≤ length (now out)) × (size < 4294967296) ⌝ }
     ensures { λ r. ⌜ now (out .exit) ≡ sets (now (out .entry)) i (sessionHead version kind session size) ⌝ }
 {

@@ -166,7 +166,6 @@ module _ (v : Version) (rest : Bytes) (code : ℕ) (enclosed text : Bytes) (h : 
       ap (λ (n : ℕ). drop n behind) e ∙ sym (drop-drop 4 (4 + length enclosed) behind) ∙ ap (drop 4) behind-enclosed
       ∙ drop-at (fourBytes (length text)) (text ++ rest) 4 (four-long (length text))
 
-
   abbrev S : Bytes
   S = header v 10 (code / 256 ∷ code % 256 ∷ []) whole ++ behind
 
@@ -215,8 +214,14 @@ module _ (v : Version) (rest : Bytes) (code : ℕ) (enclosed text : Bytes) (h : 
 
   body-long : whole ≡ 8 + length (fourBytes (length enclosed) ++ (enclosed ++ (fourBytes (length text) ++ text)))
   body-long =
-      omega (arith, length-append (fourBytes (length enclosed)) (enclosed ++ (fourBytes (length text) ++ text)), length-append enclosed (fourBytes (length text) ++ text),
-      length-append (fourBytes (length text)) text, four-long (length enclosed), four-long (length text))
+      omega (
+        arith,
+        length-append (fourBytes (length enclosed)) (enclosed ++ (fourBytes (length text) ++ text)),
+        length-append enclosed (fourBytes (length text) ++ text),
+        length-append (fourBytes (length text)) text,
+        four-long (length enclosed),
+        four-long (length text),
+      )
 
   error-trip : front v (pdu v (errorReport code enclosed text) ++ rest) ≡ read (errorReport code enclosed text) whole rest
   unfolding pdu twoBytes fourBytes

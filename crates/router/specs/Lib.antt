@@ -1,2 +1,3 @@
 pub mod Send
 pub mod Heard
+pub mod Promise
