@@ -1,0 +1,6 @@
+pub mod Saying
+pub mod Counting
+pub mod Looping
+pub mod Framing
+pub mod Sizing
+pub mod Sending
