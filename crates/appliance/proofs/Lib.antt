@@ -1,0 +1,4 @@
+pub mod Repeating
+pub mod Replying
+pub mod Turning
+pub mod Gathering

@@ -1,0 +1,3 @@
+pub mod QueryAll
+-- what only the contracts of inner functions say
+pub mod Turn
