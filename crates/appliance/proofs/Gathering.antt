@@ -5,7 +5,7 @@ use mathlib.Core.List.{List, [], _∷_, _++_, foldl, append-assoc}
 use mathlib.Core.Bool.{Bool, true, false, cond, _&&_}
 use native.Mathlib.Omega.{arith}
 use native.Mathlib.Decide.{ℕ-discrete}
-use mir.Syntax.{w64}
+use mir.Syntax.{w32, w64}
 use mir.Val.{Fits}
 use lib.Dec.{leb, eqb}
 use lib.ListN.{length, getD, set, take, drop, replicate, length-set, length-take, length-drop, length-append, length-replicate, getD-replicate}
@@ -201,6 +201,9 @@ module _ (h : History) (snapshots deltas queries out₀ : Bytes) (count : ℕ) (
   all-of : 6 * count ≡ length queries
   all-of = omega (arith, g .many, good h snapshots deltas queries (g .admitted) .1)
 
+  pub gather-count : Fits w32 count
+  gather-count = record { fits = omega (arith, fits-list) }
+
   pub gather-done : count ≤ k → (s : Session) → s ≡ sessionOf (h .session) →
       record { admitted = Yes; session = s; serial = h .newest; used = used; count = count; replies = replies } ≡ queryAllOf h snapshots deltas queries out₀
   unfolding queryAllOf
@@ -308,4 +311,4 @@ module _ (h : History) (snapshots deltas queries out₀ : Bytes) (count : ℕ) (
           is = left;
         }
 
-pub ruleset gathering = (all-refused, all-kept, gather-start, gather-done, gather-out, gather-six, gather-slot, gather-place, gather-next, gather-entry, gather-takes, gather-again)
+pub ruleset gathering = (all-refused, all-kept, gather-start, gather-count, gather-done, gather-out, gather-six, gather-slot, gather-place, gather-next, gather-entry, gather-takes, gather-again)

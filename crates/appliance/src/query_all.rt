@@ -143,7 +143,7 @@ pub fn query_all(
         session,
         serial: newest,
         used,
-        count,
+        count: count as u32,
         replies,
     }
 }

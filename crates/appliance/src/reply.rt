@@ -24,7 +24,7 @@ pub struct Replied {
     pub session: Session,
     pub serial: Serial,
     pub used: usize,
-    pub count: usize,
+    pub count: u32,
     pub replies: [Reply; 384],
 }
 

@@ -86,6 +86,9 @@ loop-again c = search (gathering, needs)
 session16-requires : tie.Need-session16-requires Inv-loop μ-loop
 session16-requires c κs = search (gathering, needs)
 
+cast-t39 : tie.Need-cast-t39 Inv-loop μ-loop
+cast-t39 c = search (gathering, needs)
+
 same-length : tie.Need-same-length Inv-loop μ-loop
 same-length c = search (gathering, needs)
 
@@ -123,5 +126,6 @@ query-all-spec =
     loop-less
     loop-again
     session16-requires
+    cast-t39
     same-length
     returns-2)
