@@ -2,3 +2,4 @@ pub mod Repeating
 pub mod Replying
 pub mod Turning
 pub mod Gathering
+pub mod Promising
