@@ -3,3 +3,4 @@ pub mod Replying
 pub mod Turning
 pub mod Gathering
 pub mod Promising
+pub mod Examples
