@@ -430,7 +430,7 @@ static void update(struct input *in, struct history *h, uint32_t places)
                 LAW(made.state.deltas[made.state.n - 1] == added);
                 LAW(memcmp(made.state.deltas, s.deltas + (s.n == s.keep), (made.state.n - 1) * sizeof *s.deltas) == 0);
             } else {
-                LAW(a->serial.value == 0 && a->length == 0 && made.state.n == 0);
+                LAW(a->serial.value == s.newest.value && a->length == 0 && made.state.n == 0);
             }
             LAW(held(&made.state) == (s.active ? kept + added : 0));
             LAW(same_from(2, deltas, held(&made.state)));
