@@ -5,9 +5,9 @@
 //! two-byte big-endian length and a body, in strictly ascending order.
 //!
 //! The work is done by a proved library, linked as a static archive; this crate wraps its C
-//! interface. Nothing here allocates but [`History::new`], [`History::starting_at`] and [`History::query_all`], and no call
-//! ever panics on its input: bad input is a [`Refusal`] that says what is wrong and where, and leaves
-//! every byte as it was.
+//! interface. Nothing here allocates but [`History::new`], [`History::starting_at`] and
+//! [`History::query_all`], and no call ever panics on its input: bad input is a [`Refusal`] that says
+//! what is wrong and where, and leaves every byte as it was.
 //!
 //! ```
 //! use taplevung::{apply, construct, Constructed, Refusal, Serial};
