@@ -216,15 +216,15 @@ fn queries(data: Data, distances: &[u32], judge: &mut Judge<'_>) {
 }
 
 /// A history of the library.
-struct Held {
-    state: raw::State,
-    snapshots: Vec<u8>,
-    deltas: Vec<u8>,
+pub struct Held {
+    pub state: raw::State,
+    pub snapshots: Vec<u8>,
+    pub deltas: Vec<u8>,
 }
 
 impl Held {
     /// It keeps this many deltas and has taken `n` after its first snapshot.
-    fn new(data: Data, keep: u32, n: u32) -> Self {
+    pub fn new(data: Data, keep: u32, n: u32) -> Self {
         let (snapshots, deltas) = (vec![0; SNAPSHOT_LIMIT], vec![0; DELTA_LIMIT]);
         let state = raw::create(7, keep, Serial(0), &snapshots, &deltas).state;
         let mut held = Held { state, snapshots, deltas };

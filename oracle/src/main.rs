@@ -304,6 +304,9 @@ impl Run {
             self.with_rust(rust.update(&next, outcome.answer.kind), &call)?;
             self.questions(rng, &world, &rust)?;
             if rng.one_in(4) {
+                self.appliance(rng, &world)?;
+            }
+            if rng.one_in(4) {
                 // any number but 0 is active, and unused lengths are ignored
                 world.state.active = 1 + rng.below(9) as u32;
                 let n = world.state.n as usize;
@@ -377,6 +380,20 @@ impl Run {
         Ok(())
     }
 
+    /// Lists of queries, most of them good, with outputs of every size up to what is needed and a little more.
+    fn appliance(&mut self, rng: &mut Rng, world: &World) -> Checked {
+        let list = queries(rng, world);
+        let needed = model::run(&world.query_all(list.clone(), vec![0; 1 << 18])).answer.length as usize;
+        let rooms: Vec<usize> = match needed {
+            0..40 if rng.one_in(8) => (0..=needed + 1).collect(),
+            _ => vec![rng.below(needed + 1), needed + rng.below(9)],
+        };
+        for room in rooms {
+            self.compare(&world.query_all(list.clone(), output(rng, room)))?;
+        }
+        Ok(())
+    }
+
     fn damaged(&mut self, rng: &mut Rng) -> Checked {
         self.kind = "damage";
         let universe = Universe::new(rng);
@@ -433,7 +450,8 @@ impl Run {
         let new = if rng.one_in(3) { damage(rng, Form::Snapshot, &new).1 } else { new };
         let mut query = world.query(session, state.newest.wrapping_sub(behind));
         query.bytes[2] = vec![0xEE; [0, 30, 5000][rng.below(3)]];
-        for call in [world.update(new), query, world.full()] {
+        let all = world.query_all(queries(rng, &world), vec![0xEE; rng.below(300)]);
+        for call in [world.update(new), query, all, world.full()] {
             if self.compare(&call)?.answer.number == 7 {
                 *self.damages.entry(name).or_default() += 1;
             }
@@ -556,6 +574,8 @@ impl Run {
             (Query, 5, 0, 500),
             (Query, 6, 0, 500),
             (Query, 7, 0, 500),
+            (QueryAll, 7, 0, 500),
+            (QueryAll, 11, 0, 100),
             (Full, 7, 0, 500),
             // from the fixed list alone
             (Construct, 10, 1, 1),
@@ -593,6 +613,28 @@ impl Run {
         }
         Ok(())
     }
+}
+
+/// Queries of a history: often of a served serial, at times too many of them, or cut inside one.
+fn queries(rng: &mut Rng, world: &World) -> Vec<u8> {
+    let count = match rng.below(40) {
+        0 => 384,
+        1 => 385,
+        2 => 380 + rng.below(8),
+        n => n % 12,
+    };
+    let (session, n) = (world.state.session as u16, world.state.n as usize);
+    let mut list = vec![];
+    for _ in 0..count {
+        let d = if rng.one_in(9) { rng.next() as u32 } else { rng.below(n + 2) as u32 };
+        let session = if rng.one_in(9) { session ^ (1 << rng.below(16)) } else { session };
+        list.extend(session.to_be_bytes());
+        list.extend(world.state.newest.wrapping_sub(d).to_be_bytes());
+    }
+    if rng.one_in(12) {
+        list.resize(list.len() + 1 + rng.below(5), 0);
+    }
+    list
 }
 
 fn bytes(snapshot: &Snapshot) -> Vec<u8> {

@@ -28,7 +28,11 @@ fn smaller(call: &Call) -> Vec<Call> {
         let mut next = call.clone();
         change(&mut next);
         let size = |c: &Call| c.bytes.iter().map(Vec::len).sum::<usize>();
-        if size(&next) < size(call) || next.numbers != call.numbers || next.state != call.state {
+        if size(&next) < size(call)
+            || next.list.len() < call.list.len()
+            || next.numbers != call.numbers
+            || next.state != call.state
+        {
             out.push(next);
         }
     };
@@ -105,11 +109,15 @@ fn smaller(call: &Call) -> Vec<Call> {
             from = to;
         }
     }
+    // queries, one at a time
+    for at in (0..call.list.len()).step_by(6) {
+        step(&|c| drop(c.list.drain(at..call.list.len().min(at + 6))));
+    }
     // numbers
     for i in 0..3 {
         step(&|c| c.numbers[i] = 0);
     }
-    if call.entry != Entry::Query {
+    if !matches!(call.entry, Entry::Query | Entry::QueryAll) {
         step(&|c| c.state.session = 0);
     }
     if call.state != State::ZERO && call.state.n <= 64 {
