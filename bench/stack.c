@@ -71,6 +71,18 @@ static uint32_t do_query(void)
     taplevung_serial oldest = {state.newest.value - state.n};
     return taplevung_query(state, session, oldest, snapshots, STORE, deltas, STORE, out, STORE).answer.kind;
 }
+static uint32_t do_query_all(void)
+{
+    static uint8_t queries[6 * TAPLEVUNG_QUERY_LIMIT];
+    for (uint32_t i = 0; i < TAPLEVUNG_QUERY_LIMIT; i++) {
+        uint32_t serial = state.newest.value - i % (state.n + 1);
+        queries[6 * i + 1] = (uint8_t)state.session;
+        queries[6 * i + 5] = (uint8_t)serial;
+    }
+    static taplevung_replies all;
+    all = taplevung_query_all(state, snapshots, STORE, deltas, STORE, queries, sizeof queries, out, STORE);
+    return all.answer.kind;
+}
 static uint32_t do_full(void)
 {
     return taplevung_full(state, snapshots, STORE, deltas, STORE).answer.kind;
@@ -98,7 +110,7 @@ static const struct {
     uint32_t (*make)(void);
 } calls[] = {
     {"construct", do_construct}, {"merge", do_merge}, {"apply", do_apply}, {"create", do_create},
-    {"update", do_update},       {"query", do_query}, {"full", do_full},
+    {"update", do_update},       {"query", do_query}, {"query_all", do_query_all}, {"full", do_full},
     {"query_messages", do_query_messages}, {"full_messages", do_full_messages}, {"notify_message", do_notify_message},
 };
 enum { CALLS = sizeof calls / sizeof *calls };

@@ -570,6 +570,48 @@ static void messages(struct input *in, struct history *h, uint32_t places)
     }
 }
 
+/* Queries in one call: as one by one, each with the output still unused. */
+static void query_all(struct input *in, struct history *h, uint32_t places)
+{
+    static uint8_t list[6 * 386];
+    const taplevung_state *s = &h->state;
+    uint32_t shape = u8(in), count = shape < 250 ? shape % 16 : 383 + shape % 3;
+    size_t length = 6 * count + (shape % 16 == 15);
+    uint8_t *alone = scratch[2];
+    for (size_t i = 0; i < count; i++) {
+        uint32_t behind = i < 16 ? u8(in) : list[6 * (i - 16) + 5], serial = s->newest.value - behind % 80;
+        uint16_t session = (uint16_t)(s->session ^ (behind >> 7 & behind >> 6));
+        uint8_t query[6] = {session >> 8, session & 255, serial >> 24, serial >> 16 & 255, serial >> 8 & 255, serial & 255};
+        memcpy(list + 6 * i, query, 6);
+    }
+    struct slice snapshots = lend(0, h->snapshots, h->snapshots_length, places & 1, 0);
+    struct slice deltas = lend(1, h->deltas, h->deltas_length, places & 2, 0);
+    struct slice out = lend_output(2, room(in, places), places & 4);
+    memcpy(alone, out.bytes, out.length);
+    taplevung_replies all = taplevung_query_all(*s, snapshots.bytes, snapshots.length, deltas.bytes, deltas.length,
+                                                list, length, out.bytes, out.length);
+    note(10, &all.answer);
+    uint32_t number = !formed(h) ? 7 : length % 6 != 0 || count > TAPLEVUNG_QUERY_LIMIT ? 11 : 0;
+    if (number != 0) {
+        LAW(refused_with(&all.answer, number, 0, 0) && all.session.value == 0 && all.count == 0 && same_from(2, out, 0));
+        return;
+    }
+    size_t used = 0;
+    LAW(all.count == count && all.session.value == (uint16_t)s->session && all.answer.serial.value == s->newest.value);
+    for (size_t i = 0; i < count; i++) {
+        const uint8_t *q = list + 6 * i;
+        taplevung_session session = {(uint16_t)(q[0] << 8 | q[1])};
+        taplevung_serial serial = {(uint32_t)q[2] << 24 | (uint32_t)q[3] << 16 | (uint32_t)q[4] << 8 | q[5]};
+        taplevung_answer a = taplevung_query(*s, session, serial, snapshots.bytes, snapshots.length, deltas.bytes,
+                                             deltas.length, alone + used, out.length - used).answer;
+        const taplevung_reply *r = &all.replies[i];
+        LAW(r->kind == a.kind && r->number == a.number && r->offset == (a.kind == 1 ? used : 0));
+        LAW(r->length == a.length && r->announced == a.announced && r->withdrawn == a.withdrawn);
+        used += a.length;
+    }
+    LAW(all.answer.kind == 1 && all.answer.length == used && equal(out.bytes, out.length, alone, out.length));
+}
+
 static void questions(const struct history *h, uint32_t places)
 {
     const taplevung_state *s = &h->state;
@@ -682,11 +724,13 @@ static void history(struct input *in)
             update(in, &h, what);
             break;
         case 3:
-        case 4:
             query(in, &h, what);
             break;
-        case 5:
+        case 4:
             messages(in, &h, what);
+            break;
+        case 5:
+            query_all(in, &h, what);
             break;
         case 6:
             questions(&h, what);

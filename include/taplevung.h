@@ -36,11 +36,13 @@ extern "C" {
 #define TAPLEVUNG_DELTA_LIMIT 33554432
 /* The most deltas that a history keeps. The least is 1. */
 #define TAPLEVUNG_KEEP_LIMIT 64
+/* The most queries in one call. A query is six bytes. */
+#define TAPLEVUNG_QUERY_LIMIT 384
 
 /* What `kind` of an answer says. Where two names have one number, the call tells them apart. */
 enum {
     TAPLEVUNG_REFUSED = 0,   /* any call: see number, argument and offset */
-    TAPLEVUNG_DONE = 1,      /* merge, apply, create, query, full */
+    TAPLEVUNG_DONE = 1,      /* merge, apply, create, query, query_all, full */
     TAPLEVUNG_DELTA = 1,     /* construct: a delta was written */
     TAPLEVUNG_NO_CHANGE = 2, /* construct: the snapshots are equal, nothing was written */
     TAPLEVUNG_FIRST = 1,     /* update: the history's first snapshot, the serial stays */
@@ -63,6 +65,7 @@ enum {
     TAPLEVUNG_BAD_KEEP = 8,      /* a history keeps 1 to 64 deltas */
     TAPLEVUNG_STORE_FULL = 9,    /* the snapshot, or the deltas to be held, exceed their store */
     TAPLEVUNG_TOO_LONG = 10,     /* an input, or a store at creation, is over its limit */
+    TAPLEVUNG_BAD_LIST = 11,     /* more than 384 queries, or a list that is cut inside one */
     TAPLEVUNG_SENSELESS = 12     /* an ASPA has no providers, or names its customer among them */
 };
 
@@ -115,6 +118,21 @@ typedef struct {
     taplevung_session session;
     taplevung_answer answer;
 } taplevung_told;
+
+/* What one query of taplevung_query_all gets. */
+typedef struct {
+    uint32_t kind, number;         /* 1 and 0, or TAPLEVUNG_REFUSED and the refusal */
+    uint64_t offset, length;       /* where its delta starts in the output, and how long it is */
+    uint64_t announced, withdrawn; /* of that delta */
+} taplevung_reply;
+
+/* The answer of query_all, the session to name to the routers, and a reply for each query. */
+typedef struct {
+    taplevung_answer answer;
+    taplevung_session session;
+    uint32_t count; /* how many queries there were; replies past it are zeros */
+    taplevung_reply replies[TAPLEVUNG_QUERY_LIMIT];
+} taplevung_replies;
 
 /* What a Serial Notify says. */
 typedef struct {
@@ -219,6 +237,24 @@ taplevung_told taplevung_query(
     taplevung_state state, taplevung_session session, taplevung_serial serial,
     const uint8_t *snapshots, size_t snapshots_length,
     const uint8_t *deltas, size_t deltas_length,
+    uint8_t *out, size_t out_length);
+
+/*
+ * Answers up to 384 queries as taplevung_query does, one by one, each with the output that
+ * is still unused: the deltas lie one behind the other. `queries` has six bytes for each:
+ * the session in 2, the serial in 4, big-endian. The history is checked once, and routers
+ * at the same serial share one walk over its deltas.
+ *
+ * TAPLEVUNG_DONE: `session` and serial are those to name to the routers, length is what is
+ * used of the output. Each reply has kind TAPLEVUNG_DONE, or number 5, 6 or 4: a query that
+ * does not fit uses nothing, and later ones are still tried. Refused: all else is 0.
+ * Refusals of the call: 7, then 11.
+ */
+taplevung_replies taplevung_query_all(
+    taplevung_state state,
+    const uint8_t *snapshots, size_t snapshots_length,
+    const uint8_t *deltas, size_t deltas_length,
+    const uint8_t *queries, size_t queries_length,
     uint8_t *out, size_t out_length);
 
 /*

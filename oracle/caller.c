@@ -19,7 +19,7 @@ extern void *memset(void *, int, size_t);
 enum { PROT_NONE_ = 0, PROT_READ_WRITE_ = 3, MAP_PRIVATE_ANONYMOUS_ = 0x22 };
 
 enum entry {
-    CONSTRUCT, MERGE, APPLY, CREATE, UPDATE, QUERY, FULL, NOTIFY, READY, TIMING,
+    CONSTRUCT, MERGE, APPLY, CREATE, UPDATE, QUERY, QUERY_ALL, FULL, NOTIFY, READY, TIMING,
     QUERY_MESSAGES, FULL_MESSAGES, NOTIFY_MESSAGE
 };
 
@@ -27,6 +27,7 @@ struct request {
     uint64_t entry, numbers[5];
     uint64_t lengths[3]; /* of the slices, and how much of each is sent */
     uint64_t sent[3];
+    uint64_t list; /* the length of the queries, which come behind the slices */
     taplevung_state state;
 };
 
@@ -36,6 +37,7 @@ struct reply {
     uint64_t numbers[3];
     uint64_t whole; /* 1 if nothing before a slice was written */
     uint64_t sent[3];
+    uint64_t count; /* of replies, which come behind the slices */
 };
 
 /* Room for a slice: more than the longest that is lent, then the page. */
@@ -44,7 +46,8 @@ struct reply {
 #define BEFORE ((size_t)64)
 #define LONG ((size_t)1048576)
 
-static uint8_t *rooms[3];
+static uint8_t *rooms[4]; /* the last for queries */
+static taplevung_replies all;
 static uint8_t input[65536];
 static size_t input_at, input_end;
 
@@ -137,6 +140,13 @@ static void call(const struct request *q, uint8_t *const s[3], struct reply *r)
         r->answer = told.answer;
         r->numbers[0] = told.session.value;
         break;
+    case QUERY_ALL:
+        all = taplevung_query_all(
+            q->state, s[0], n[0], s[1], n[1], rooms[3] + ROOM - q->list, q->list, s[2], n[2]);
+        r->answer = all.answer;
+        r->numbers[0] = all.session.value;
+        r->count = all.count;
+        break;
     case NOTIFY: {
         taplevung_notice notice = taplevung_notify(q->state);
         r->answer.serial = notice.serial;
@@ -171,7 +181,7 @@ static void call(const struct request *q, uint8_t *const s[3], struct reply *r)
 
 int main(void)
 {
-    for (int i = 0; i < 3; i++) {
+    for (int i = 0; i < 4; i++) {
         rooms[i] = mmap(NULL, ROOM + PAGE, PROT_READ_WRITE_, MAP_PRIVATE_ANONYMOUS_, -1, 0);
         if ((uintptr_t)rooms[i] + 1 == 0 || mprotect(rooms[i] + ROOM, PAGE, PROT_NONE_) != 0)
             return 2;
@@ -188,10 +198,16 @@ int main(void)
             if (!take(slices[i], q.sent[i]))
                 return 4;
         }
+        if (q.list > ROOM || !take(rooms[3] + ROOM - q.list, q.list))
+            return 4;
         struct reply r;
         memset(&r, 0, sizeof r);
         call(&q, slices, &r);
-        r.whole = 1;
+        r.whole = r.count <= TAPLEVUNG_QUERY_LIMIT;
+        if (r.whole && q.entry == QUERY_ALL)
+            for (const uint8_t *p = (const uint8_t *)(all.replies + r.count); p < (const uint8_t *)(&all + 1); p++)
+                if (*p != 0)
+                    r.whole = 0;
         for (int i = 0; i < 3; i++)
             for (size_t k = 1; k <= BEFORE; k++)
                 if (slices[i][-(ptrdiff_t)k] != 0xc5)
@@ -206,6 +222,8 @@ int main(void)
         for (int i = 0; i < 3; i++)
             if (!give(slices[i], r.sent[i]))
                 return 5;
+        if (r.whole && !give(all.replies, r.count * sizeof *all.replies))
+            return 5;
         if (!flush())
             return 5;
     }

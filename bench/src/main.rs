@@ -4,8 +4,10 @@
 //!   of ratios and writes them to FOLDER/goals.md and FOLDER/tables.md, and a plot to FOLDER/growth.svg. Times
 //!   themselves say more of a machine than of the library, so there are none. `bench/run` starts this.
 //! - `bench messages FOLDER [ROUNDS]` measures the router messages alone, and writes FOLDER/messages.md.
+//! - `bench appliance ITEMS RUNS` prints a table of 384 queries in one call.
 //! - `bench names` prints what can be counted, and `bench count ENTRY KIND WHO TIMES` runs one of those so many
 //!   times and prints how many fields its inputs have. `bench/count` starts these.
+mod appliance;
 mod data;
 mod entries;
 mod goals;
@@ -32,12 +34,16 @@ fn main() {
         ["messages", folder, rounds] => {
             messages(Path::new(folder), rounds.parse().expect("a number of rounds"))
         }
+        ["appliance", items, runs] => {
+            let number = |word: &str| word.parse().expect("a number");
+            print!("{}", appliance::run(number(items), number(runs)));
+        }
         ["names"] => names(),
         ["count", entry, kind, who, times] => {
             count(entry, kind, who, times.parse().expect("a number of times"))
         }
         _ => {
-            eprintln!("usage: bench race FOLDER [ROUNDS] | messages FOLDER [ROUNDS] | names | count ENTRY KIND WHO TIMES");
+            eprintln!("usage: bench race FOLDER [ROUNDS] | messages FOLDER [ROUNDS] | appliance ITEMS RUNS | names | count ENTRY KIND WHO TIMES");
             std::process::exit(2);
         }
     }

@@ -8,7 +8,7 @@ use std::path::{Path, PathBuf};
 use std::process::ExitCode;
 use std::{env, fs};
 
-use oracle::call::{Answer, Call, Entry, Outcome, State};
+use oracle::call::{Answer, Call, Entry, Outcome, Reply, State};
 use oracle::model::{Form, Refused};
 use oracle::script::play;
 use taplevung::{raw, Serial, Session, Timing};
@@ -85,7 +85,8 @@ const AROUND: [u8; 64] = [0xC5; 64];
 fn run(call: &Call) -> Outcome {
     let mut rooms = call.bytes.each_ref().map(|lent| [&AROUND, &lent[..], &AROUND].concat());
     let (answer, state, numbers) = (Answer::default(), State::ZERO, [0; 3]);
-    let mut left = Outcome { answer, state, numbers, bytes: Default::default() };
+    let (bytes, replies) = (Default::default(), vec![]);
+    let mut left = Outcome { answer, state, numbers, bytes, replies };
     make(call, rooms.each_mut().map(|room| inner(room)), &mut left);
     for (i, (room, before)) in rooms.iter_mut().zip(&call.bytes).enumerate() {
         assert!(
@@ -126,6 +127,7 @@ fn make(call: &Call, [a, b, c]: [&mut [u8]; 3], left: &mut Outcome) {
         Entry::Create => made(raw::create(call.numbers[0], second, Serial(third), a, b), left),
         Entry::Update => made(raw::update(state, a, b, c), left),
         Entry::Query => told(raw::query(state, Session(first as u16), Serial(second), a, b, c), left),
+        Entry::QueryAll => replied(&raw::query_all(state, a, b, &call.list, c), left),
         Entry::Full => told(raw::full(state, a, b), left),
         Entry::Notify => {
             let notice = raw::notify(state);
@@ -165,6 +167,19 @@ fn sent(sent: raw::Sent, left: &mut Outcome) {
 fn times(call: &Call, at: usize) -> Timing {
     let [refresh, retry, expire] = [0, 1, 2].map(|i| call.numbers[at + i] as u32);
     Timing { refresh, retry, expire }
+}
+
+fn replied(all: &raw::Replies, left: &mut Outcome) {
+    left.answer = answer(all.answer);
+    left.numbers[0] = all.session.0.into();
+    let (replies, rest) = all.replies.split_at(all.count as usize);
+    left.replies.extend(replies.iter().map(reply));
+    assert!(rest.iter().all(|r| reply(r) == Reply::default()), "a reply past the count is not 0");
+}
+
+fn reply(said: &raw::Reply) -> Reply {
+    let raw::Reply { kind, number, offset, length, announced, withdrawn } = *said;
+    Reply { kind, number, offset, length, announced, withdrawn }
 }
 
 fn answer(said: raw::Answer) -> Answer {

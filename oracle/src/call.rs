@@ -11,6 +11,7 @@ pub enum Entry {
     Create,
     Update,
     Query,
+    QueryAll,
     Full,
     Notify,
     Ready,
@@ -56,6 +57,17 @@ pub struct Answer {
     pub withdrawn: u64,
 }
 
+/// `taplevung_reply`.
+#[derive(Clone, Copy, Debug, Default, Eq, PartialEq)]
+pub struct Reply {
+    pub kind: u32,
+    pub number: u32,
+    pub offset: u64,
+    pub length: u64,
+    pub announced: u64,
+    pub withdrawn: u64,
+}
+
 /// A call. Which numbers and slices an entry takes is said at the functions that make one; slices
 /// stand in the order of the C function's parameters.
 #[derive(Clone)]
@@ -64,6 +76,8 @@ pub struct Call {
     pub state: State,
     pub numbers: [u64; 5],
     pub bytes: [Vec<u8>; 3],
+    /// The queries of `QueryAll`.
+    pub list: Vec<u8>,
 }
 
 /// All that a call hands back, and every lent byte afterwards. What an entry does not hand back is 0.
@@ -74,13 +88,15 @@ pub struct Outcome {
     /// The session, and of messages the router keys and the ASPAs skipped; or whether ready; or the three times.
     pub numbers: [u64; 3],
     pub bytes: [Vec<u8>; 3],
+    /// Of `QueryAll`, one for each query.
+    pub replies: Vec<Reply>,
 }
 
 impl Call {
     fn new<const N: usize>(entry: Entry, state: State, given: [u64; N], bytes: [Vec<u8>; 3]) -> Self {
         let mut numbers = [0; 5];
         numbers[..N].copy_from_slice(&given);
-        Call { entry, state, numbers, bytes }
+        Call { entry, state, numbers, bytes, list: vec![] }
     }
     pub fn construct(old: Vec<u8>, new: Vec<u8>, serial: u32, out: Vec<u8>) -> Self {
         Self::new(Entry::Construct, State::ZERO, [serial.into()], [old, new, out])
@@ -107,6 +123,9 @@ impl Call {
         out: Vec<u8>,
     ) -> Self {
         Self::new(Entry::Query, state, [session.into(), serial.into()], [snapshots, deltas, out])
+    }
+    pub fn query_all(state: State, snapshots: Vec<u8>, deltas: Vec<u8>, list: Vec<u8>, out: Vec<u8>) -> Self {
+        Call { list, ..Self::new(Entry::QueryAll, state, [], [snapshots, deltas, out]) }
     }
     pub fn full(state: State, snapshots: Vec<u8>, deltas: Vec<u8>) -> Self {
         Self::new(Entry::Full, state, [], [snapshots, deltas, vec![]])
@@ -143,9 +162,8 @@ impl Call {
     /// Which slices are the snapshot store and the delta store.
     pub fn stores(&self) -> Option<(usize, usize)> {
         match self.entry {
-            Entry::Create | Entry::Query | Entry::Full | Entry::QueryMessages | Entry::FullMessages => {
-                Some((0, 1))
-            }
+            Entry::Create | Entry::Query | Entry::QueryAll | Entry::Full => Some((0, 1)),
+            Entry::QueryMessages | Entry::FullMessages => Some((0, 1)),
             Entry::Update => Some((1, 2)),
             _ => None,
         }
@@ -154,7 +172,7 @@ impl Call {
     /// Which slice is the output.
     pub fn out(&self) -> Option<usize> {
         match self.entry {
-            Entry::Construct | Entry::Merge | Entry::Apply | Entry::Query => Some(2),
+            Entry::Construct | Entry::Merge | Entry::Apply | Entry::Query | Entry::QueryAll => Some(2),
             Entry::QueryMessages | Entry::FullMessages | Entry::NotifyMessage => Some(2),
             _ => None,
         }
@@ -175,7 +193,10 @@ impl fmt::Debug for State {
     fn fmt(&self, f: &mut fmt::Formatter<'_>) -> fmt::Result {
         let used = self.deltas.iter().rposition(|l| *l != 0).map_or(0, |at| at + 1);
         let State { session, keep, active, newest, start, n, snapshot, deltas } = self;
-        write!(f, "session {session}, keep {keep}, active {active}, newest {newest}, start {start}, n {n}, ")?;
+        write!(
+            f,
+            "session {session}, keep {keep}, active {active}, newest {newest}, start {start}, n {n}, "
+        )?;
         write!(f, "snapshot {snapshot}, deltas {:?}", &deltas[..used])
     }
 }
@@ -188,6 +209,9 @@ impl fmt::Display for Call {
         }
         for (i, bytes) in self.bytes.iter().enumerate() {
             writeln!(f, "  slice {} ({} bytes): {}", i + 1, bytes.len(), hex(bytes))?;
+        }
+        if !self.list.is_empty() {
+            writeln!(f, "  queries: {}", hex(&self.list))?;
         }
         Ok(())
     }
@@ -204,6 +228,9 @@ impl Outcome {
             if after != before {
                 out += &format!("  slice {} then: {}\n", i + 1, hex(after));
             }
+        }
+        for (i, reply) in self.replies.iter().enumerate() {
+            out += &format!("  query {}: {reply:?}\n", i + 1);
         }
         out
     }

@@ -317,6 +317,9 @@ impl Run {
             carried.insert(world.state.newest, world.now());
             self.routers(rng, &world, &carried, &rust)?;
             if rng.one_in(4) {
+                self.appliance(rng, &world)?;
+            }
+            if rng.one_in(4) {
                 // any number but 0 is active, and unused lengths are ignored
                 world.state.active = 1 + rng.below(9) as u32;
                 let n = world.state.n as usize;
@@ -470,6 +473,20 @@ impl Run {
         Ok(())
     }
 
+    /// Lists of queries, most of them good, with outputs of every size up to what is needed and a little more.
+    fn appliance(&mut self, rng: &mut Rng, world: &World) -> Checked {
+        let list = queries(rng, world);
+        let needed = model::run(&world.query_all(list.clone(), vec![0; 1 << 18])).answer.length as usize;
+        let rooms: Vec<usize> = match needed {
+            0..40 if rng.one_in(8) => (0..=needed + 1).collect(),
+            _ => vec![rng.below(needed + 1), needed + rng.below(9)],
+        };
+        for room in rooms {
+            self.compare(&world.query_all(list.clone(), output(rng, room)))?;
+        }
+        Ok(())
+    }
+
     fn damaged(&mut self, rng: &mut Rng) -> Checked {
         self.kind = "damage";
         let universe = Universe::new(rng);
@@ -530,7 +547,8 @@ impl Run {
             0 => Call::query_messages(query.clone(), times(rng)),
             _ => Call::full_messages(world.full(), times(rng), query.bytes[2].clone()),
         };
-        for call in [world.update(new), query, world.full(), messages] {
+        let all = world.query_all(queries(rng, &world), vec![0xEE; rng.below(300)]);
+        for call in [world.update(new), query, all, world.full(), messages] {
             if self.compare(&call)?.answer.number == 7 {
                 *self.damages.entry(name).or_default() += 1;
             }
@@ -663,6 +681,8 @@ impl Run {
             (Query, 5, 0, 500),
             (Query, 6, 0, 500),
             (Query, 7, 0, 500),
+            (QueryAll, 7, 0, 500),
+            (QueryAll, 11, 0, 100),
             (Full, 7, 0, 500),
             (QueryMessages, 4, 0, 500),
             (QueryMessages, 5, 0, 200),
@@ -708,6 +728,28 @@ impl Run {
         }
         Ok(())
     }
+}
+
+/// Queries of a history: often of a served serial, at times too many of them, or cut inside one.
+fn queries(rng: &mut Rng, world: &World) -> Vec<u8> {
+    let count = match rng.below(40) {
+        0 => 384,
+        1 => 385,
+        2 => 380 + rng.below(8),
+        n => n % 12,
+    };
+    let (session, n) = (world.state.session as u16, world.state.n as usize);
+    let mut list = vec![];
+    for _ in 0..count {
+        let d = if rng.one_in(9) { rng.next() as u32 } else { rng.below(n + 2) as u32 };
+        let session = if rng.one_in(9) { session ^ (1 << rng.below(16)) } else { session };
+        list.extend(session.to_be_bytes());
+        list.extend(world.state.newest.wrapping_sub(d).to_be_bytes());
+    }
+    if rng.one_in(12) {
+        list.resize(list.len() + 1 + rng.below(5), 0);
+    }
+    list
 }
 
 fn bytes(snapshot: &Snapshot) -> Vec<u8> {

@@ -328,6 +328,10 @@ impl World {
         Call::query(self.state, session, serial, self.snapshots.clone(), self.deltas.clone(), vec![])
     }
 
+    pub fn query_all(&self, list: Vec<u8>, out: Vec<u8>) -> Call {
+        Call::query_all(self.state, self.snapshots.clone(), self.deltas.clone(), list, out)
+    }
+
     pub fn full(&self) -> Call {
         Call::full(self.state, self.snapshots.clone(), self.deltas.clone())
     }

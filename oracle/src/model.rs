@@ -5,7 +5,7 @@
 //! any other item is empty.
 use std::collections::BTreeMap;
 
-use crate::call::{Answer, Call, Entry, Outcome, State};
+use crate::call::{Answer, Call, Entry, Outcome, Reply, State};
 use crate::field::{put, split_update};
 use crate::message;
 
@@ -290,8 +290,8 @@ pub fn timing(refresh: u32, retry: u32, expire: u32) -> (u32, u32, u32) {
 
 /// What a call leaves. A refusal leaves every byte, and an update's state, as they were.
 pub fn run(call: &Call) -> Outcome {
-    let mut out =
-        Outcome { answer: Answer::default(), state: State::ZERO, numbers: [0; 3], bytes: call.bytes.clone() };
+    let (answer, numbers, bytes) = (Answer::default(), [0; 3], call.bytes.clone());
+    let mut out = Outcome { answer, state: State::ZERO, numbers, bytes, replies: vec![] };
     if call.entry == Entry::Update {
         out.state = call.state;
     }
@@ -380,12 +380,30 @@ fn accept(call: &Call, out: &mut Outcome) -> Result<(), Refused> {
         }
         Entry::Query => {
             let held = history(state, first, second)?;
-            if call.numbers[0] != state.session % 65_536 {
-                return Err(Refused(5, 0, 0));
+            let [session, serial, ..] = call.numbers;
+            out.answer = ask(&held, state, session, serial as u32, &mut out.bytes[2])?;
+            out.numbers[0] = state.session % 65_536;
+        }
+        Entry::QueryAll => {
+            let held = history(state, first, second)?;
+            if call.list.len() > 6 * 384 || call.list.len() % 6 != 0 {
+                return Err(Refused(11, 0, 0));
             }
-            let made = held.since(state.newest, call.numbers[1] as u32)?;
-            lend(&delta_bytes(&made), &mut out.bytes[2], 4)?;
-            out.answer = served(1, state.newest, &made);
+            let mut used = 0;
+            for query in call.list.chunks_exact(6) {
+                let session = u16::from_be_bytes([query[0], query[1]]);
+                let serial = u32::from_be_bytes(query[2..].try_into().expect("4 bytes"));
+                let said = ask(&held, state, session.into(), serial, &mut out.bytes[2][used..]);
+                out.replies.push(match said {
+                    Err(Refused(number, ..)) => Reply { number, ..Reply::default() },
+                    Ok(Answer { length, announced, withdrawn, .. }) => {
+                        let offset = used as u64;
+                        used += length as usize;
+                        Reply { kind: 1, number: 0, offset, length, announced, withdrawn }
+                    }
+                });
+            }
+            out.answer = Answer { kind: 1, serial: state.newest, length: used as u64, ..Answer::default() };
             out.numbers[0] = state.session % 65_536;
         }
         Entry::Full => {
@@ -448,6 +466,16 @@ fn send_data(delta: &Delta, times: (u32, u32, u32), state: &State, out: &mut Out
     (out.answer.announced, out.answer.withdrawn) = (written.announced, written.withdrawn);
     out.numbers = [state.session % 65_536, 0, written.aspas_skipped];
     Ok(())
+}
+
+/// A query of a well-formed history: 5, 6, 4, or its delta at the front of what is lent.
+fn ask(held: &History, state: &State, session: u64, serial: u32, lent: &mut [u8]) -> Result<Answer, Refused> {
+    if session != state.session % 65_536 {
+        return Err(Refused(5, 0, 0));
+    }
+    let made = held.since(state.newest, serial)?;
+    lend(&delta_bytes(&made), lent, 4)?;
+    Ok(served(1, state.newest, &made))
 }
 
 /// Refusal 10.

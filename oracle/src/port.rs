@@ -5,7 +5,7 @@
 use std::io::{Read, Write};
 use std::process::{Child, Command, Stdio};
 
-use crate::call::{Answer, Call, Outcome, State};
+use crate::call::{Answer, Call, Outcome, Reply, State};
 
 pub struct Port {
     command: Vec<String>,
@@ -15,7 +15,7 @@ pub struct Port {
 
 /// Sizes of the C structs.
 const STATE: usize = 288;
-const REPLY: usize = 48 + STATE + 3 * 8 + 8 + 3 * 8;
+const REPLY: usize = 48 + STATE + 3 * 8 + 8 + 3 * 8 + 8;
 
 impl Port {
     /// The command that starts the caller, a word each.
@@ -49,8 +49,10 @@ impl Port {
         call.numbers.iter().for_each(|x| self.buffer.extend(x.to_le_bytes()));
         lengths.iter().for_each(|x| self.buffer.extend((*x as u64).to_le_bytes()));
         sent.iter().for_each(|b| self.buffer.extend((b.len() as u64).to_le_bytes()));
+        self.buffer.extend((call.list.len() as u64).to_le_bytes());
         put_state(&mut self.buffer, &call.state);
         sent.iter().for_each(|b| self.buffer.extend_from_slice(b));
+        self.buffer.extend_from_slice(&call.list);
         child.stdin.as_mut()?.write_all(&self.buffer).ok()?;
 
         let stdout = child.stdout.as_mut()?;
@@ -71,11 +73,16 @@ impl Port {
         let numbers = std::array::from_fn(|_| reply.u64());
         let whole = reply.u64() == 1;
         let sent = [(); 3].map(|_| reply.u64() as usize);
+        let count = reply.u64() as usize;
         let mut bytes = lengths.map(|n| vec![0; n]);
         for (bytes, sent) in bytes.iter_mut().zip(sent) {
             stdout.read_exact(bytes.get_mut(..sent)?).ok()?;
         }
-        whole.then_some(Outcome { answer, state, numbers, bytes })
+        self.buffer.resize(40 * count, 0);
+        stdout.read_exact(&mut self.buffer).ok()?;
+        let mut reply = Reader(&self.buffer);
+        let replies = (0..count).map(|_| reply.reply()).collect();
+        whole.then_some(Outcome { answer, state, numbers, bytes, replies })
     }
 
     fn stop(&mut self) {
@@ -120,6 +127,16 @@ impl<'a> Reader<'a> {
     }
     fn u64(&mut self) -> u64 {
         u64::from_le_bytes(self.take(8).try_into().expect("8 bytes"))
+    }
+    fn reply(&mut self) -> Reply {
+        Reply {
+            kind: self.u32(),
+            number: self.u32(),
+            offset: self.u64(),
+            length: self.u64(),
+            announced: self.u64(),
+            withdrawn: self.u64(),
+        }
     }
     fn state(&mut self) -> State {
         State {

@@ -5,7 +5,7 @@
 //! of calls: the model, the model with the Rust beside it, or the library (`lists/src/main.rs`).
 use std::fmt::Write;
 
-use crate::call::{Answer, Call, Entry, Outcome, State};
+use crate::call::{Answer, Call, Entry, Outcome, Reply, State};
 use crate::model::{self, Form, Refused};
 
 /// Filled into outputs and stores, to see what stays.
@@ -149,6 +149,7 @@ impl<F: FnMut(&Call) -> Outcome> Player<F> {
             "update" => self.update(line.bytes(1)),
             "go" => self.go(line),
             "query" => self.query(line),
+            "queries" => self.queries(line),
             "full" => self.full(),
             "query-messages" | "full-messages" | "notify-message" => self.messages(line),
             "notify" => {
@@ -305,6 +306,27 @@ impl<F: FnMut(&Call) -> Outcome> Player<F> {
             }
         };
         named(&left) + &sent
+    }
+
+    /// queries NAME ROOM LIST
+    fn queries(&mut self, line: &Line<'_>) -> String {
+        let [snapshots, deltas] = self.stores.each_ref().map(Store::lent);
+        let lent = vec![MARK; line.number(1) as usize];
+        let left = (self.run)(&Call::query_all(self.state, snapshots, deltas, line.bytes(2), lent));
+        let out = whole(&left.bytes[2]);
+        let mut said = named(&left);
+        for reply in &left.replies {
+            said += &match reply {
+                Reply { kind: 0, number, .. } => format!(" {number}"),
+                Reply { offset, length, announced, withdrawn, .. } => {
+                    format!(" {offset}+{length}/{announced}/{withdrawn}")
+                }
+            };
+        }
+        match left.answer.kind {
+            0 => refused(&left.answer) + kept(&out),
+            _ => said + &written(&out, left.answer.length as usize),
+        }
     }
 
     fn full(&mut self) -> String {

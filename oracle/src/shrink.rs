@@ -37,7 +37,11 @@ fn smaller(call: &Call) -> Vec<Call> {
     let mut step = |change: &dyn Fn(&mut Call)| {
         let mut next = call.clone();
         change(&mut next);
-        if size(&next) < size(call) || next.numbers != call.numbers || next.state != call.state {
+        if size(&next) < size(call)
+            || next.list.len() < call.list.len()
+            || next.numbers != call.numbers
+            || next.state != call.state
+        {
             out.push(next);
         }
     };
@@ -114,11 +118,15 @@ fn smaller(call: &Call) -> Vec<Call> {
             from = to;
         }
     }
+    // queries, one at a time
+    for at in (0..call.list.len()).step_by(6) {
+        step(&|c| drop(c.list.drain(at..call.list.len().min(at + 6))));
+    }
     // numbers
     for i in 0..call.numbers.len() {
         step(&|c| c.numbers[i] = 0);
     }
-    if !matches!(call.entry, Entry::Query | Entry::QueryMessages) {
+    if !matches!(call.entry, Entry::Query | Entry::QueryAll | Entry::QueryMessages) {
         step(&|c| c.state.session = 0);
     }
     if call.state != State::ZERO && call.state.n <= 64 {

@@ -1,4 +1,4 @@
-use crate::{raw, Delta, Refusal, Serial, Session, Timing};
+use crate::{raw, Delta, Refusal, Serial, Session, Timing, QUERY_LIMIT};
 
 /// The newest snapshot and the last deltas, and what a router is to be sent.
 ///
@@ -107,6 +107,38 @@ impl Sent {
     }
 }
 
+/// The replies to the queries of an appliance: the session and serial to name to the routers, and
+/// how much of the output is used.
+#[derive(Clone, Debug)]
+pub struct Replies {
+    pub session: Session,
+    pub serial: Serial,
+    pub length: usize,
+    raw: Box<raw::Replies>,
+}
+
+/// What one query gets: where in the output its delta starts, and the delta.
+#[derive(Clone, Copy, Debug, Eq, PartialEq)]
+pub struct Reply {
+    pub offset: usize,
+    pub delta: Delta,
+}
+
+impl Replies {
+    /// A reply for each query, in order.
+    pub fn iter(&self) -> impl ExactSizeIterator<Item = Result<Reply, Refusal>> + '_ {
+        self.raw.replies[..self.raw.count as usize].iter().map(|reply| {
+            if reply.kind == 0 {
+                return Err(Refusal::of(reply.number, 0, 0));
+            }
+            let (serial, length) = (self.serial, reply.length as usize);
+            let (announced, withdrawn) = (reply.announced, reply.withdrawn);
+            let delta = Delta { serial, length, announced, withdrawn };
+            Ok(Reply { offset: reply.offset as usize, delta })
+        })
+    }
+}
+
 impl History {
     /// Makes a history with no snapshot yet, which keeps up to `keep` deltas. Its first serial is 0.
     ///
@@ -158,6 +190,42 @@ impl History {
         let told = raw::query(self.state, session, serial, &self.snapshots, &self.deltas, out);
         Refusal::check(&told.answer)?;
         Ok(Served { session: told.session, delta: Delta::of(&told.answer) })
+    }
+
+    /// Answers up to 384 queries as [`query`](Self::query) does, one by one, each with the output that
+    /// is still unused. The history is checked once, and routers at the same serial share one walk.
+    ///
+    /// A query that does not fit gets [`Refusal::NoRoom`] and uses nothing; later ones are still tried.
+    /// More than 384 queries are refused with [`Refusal::BadList`].
+    ///
+    /// ```
+    /// use taplevung::{History, Refusal, Serial, Session};
+    ///
+    /// let mut history = History::new(77, 10, 1000, 1000)?;
+    /// history.update(b"\x03\x00\x08\x00\x00\x00\x01\x00\x00\x00\x02")?;
+    /// history.update(b"\x03\x00\x08\x00\x00\x00\x01\x00\x00\x00\x03")?;
+    ///
+    /// let mut out = [0; 100];
+    /// let asked = [(Session(77), Serial(0)), (Session(78), Serial(0)), (Session(77), Serial(0))];
+    /// let replies = history.query_all(&asked, &mut out)?;
+    /// let [one, other, two] = replies.iter().collect::<Vec<_>>()[..] else { panic!() };
+    /// assert_eq!(other, Err(Refusal::OtherSession));
+    /// let (one, two) = (one?, two?);
+    /// assert_eq!((one.offset, two.offset), (0, one.delta.length));
+    /// assert_eq!(out[..two.offset], out[two.offset..replies.length]);
+    /// # Ok::<(), Refusal>(())
+    /// ```
+    pub fn query_all(&self, asked: &[(Session, Serial)], out: &mut [u8]) -> Result<Replies, Refusal> {
+        let mut queries = [0; 6 * QUERY_LIMIT];
+        let Some(queries) = queries.get_mut(..6 * asked.len()) else { return Err(Refusal::BadList) };
+        for (query, (session, serial)) in queries.chunks_exact_mut(6).zip(asked) {
+            query[..2].copy_from_slice(&session.0.to_be_bytes());
+            query[2..].copy_from_slice(&serial.0.to_be_bytes());
+        }
+        let raw = Box::new(raw::query_all(self.state, &self.snapshots, &self.deltas, queries, out));
+        Refusal::check(&raw.answer)?;
+        let (session, serial) = (raw.session, raw.answer.serial);
+        Ok(Replies { session, serial, length: raw.answer.length as usize, raw })
     }
 
     /// What a router is sent that asks for everything. The snapshot is empty before the first

@@ -5,9 +5,9 @@
 //! two-byte big-endian length and a body, in strictly ascending order.
 //!
 //! The work is done by a proved library, linked as a static archive; this crate wraps its C
-//! interface. Nothing here allocates but [`History::new`] and [`History::starting_at`], and no call
-//! ever panics on its input: bad input is a [`Refusal`] that says what is wrong and where, and leaves
-//! every byte as it was.
+//! interface. Nothing here allocates but [`History::new`], [`History::starting_at`] and
+//! [`History::query_all`], and no call ever panics on its input: bad input is a [`Refusal`] that says
+//! what is wrong and where, and leaves every byte as it was.
 //!
 //! ```
 //! use taplevung::{apply, construct, Constructed, Refusal, Serial};
@@ -31,7 +31,7 @@ mod history;
 pub mod raw;
 mod refusal;
 
-pub use history::{Full, History, Messages, Sent, Served, Updated};
+pub use history::{Full, History, Messages, Replies, Reply, Sent, Served, Updated};
 pub use refusal::Refusal;
 
 /// The longest snapshot, and snapshot store, in bytes.
@@ -40,6 +40,8 @@ pub const SNAPSHOT_LIMIT: usize = 16_777_216;
 pub const DELTA_LIMIT: usize = 33_554_432;
 /// The most deltas that a history keeps.
 pub const KEEP_LIMIT: u32 = 64;
+/// The most queries in one call of [`History::query_all`].
+pub const QUERY_LIMIT: usize = 384;
 
 /// The serial of a snapshot. After 4,294,967,295 comes 0, so serials have no plain order.
 #[repr(C)]

@@ -58,6 +58,30 @@ pub struct Told {
     pub answer: Answer,
 }
 
+/// What one query of [`query_all`] gets: kind 1 and where its delta stands in the output, or kind 0 and
+/// the refusal's number.
+#[repr(C)]
+#[derive(Clone, Copy, Debug, Eq, PartialEq)]
+pub struct Reply {
+    pub kind: u32,
+    pub number: u32,
+    pub offset: u64,
+    pub length: u64,
+    pub announced: u64,
+    pub withdrawn: u64,
+}
+
+/// The answer of [`query_all`], the session to name to the routers, and a reply for each query; those
+/// past `count` are zeros.
+#[repr(C)]
+#[derive(Clone, Copy, Debug, Eq, PartialEq)]
+pub struct Replies {
+    pub answer: Answer,
+    pub session: Session,
+    pub count: u32,
+    pub replies: [Reply; crate::QUERY_LIMIT],
+}
+
 /// What a Serial Notify says.
 #[repr(C)]
 #[derive(Clone, Copy, Debug, Eq, PartialEq)]
@@ -137,6 +161,17 @@ mod c {
             out: *mut u8,
             out_length: usize,
         ) -> Told;
+        pub fn taplevung_query_all(
+            state: State,
+            snapshots: *const u8,
+            snapshots_length: usize,
+            deltas: *const u8,
+            deltas_length: usize,
+            queries: *const u8,
+            queries_length: usize,
+            out: *mut u8,
+            out_length: usize,
+        ) -> Replies;
         pub fn taplevung_full(
             state: State,
             snapshots: *const u8,
@@ -271,6 +306,24 @@ pub fn query(
             snapshots.len(),
             deltas.as_ptr(),
             deltas.len(),
+            out.as_mut_ptr(),
+            out.len(),
+        )
+    }
+}
+
+/// `taplevung_query_all`: the queries of a whole appliance, six bytes each.
+pub fn query_all(state: State, snapshots: &[u8], deltas: &[u8], queries: &[u8], out: &mut [u8]) -> Replies {
+    // SAFETY: as in `construct`.
+    unsafe {
+        c::taplevung_query_all(
+            state,
+            snapshots.as_ptr(),
+            snapshots.len(),
+            deltas.as_ptr(),
+            deltas.len(),
+            queries.as_ptr(),
+            queries.len(),
             out.as_mut_ptr(),
             out.len(),
         )

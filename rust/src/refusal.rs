@@ -29,6 +29,8 @@ pub enum Refusal {
     StoreFull,
     /// 10: an input, or a store at creation, is over its limit.
     TooLong { argument: u32 },
+    /// 11: more than 384 queries in one call.
+    BadList,
     /// 12: an ASPA has no providers, or names its customer among them.
     Senseless { argument: u32, offset: u64 },
 }
@@ -36,11 +38,15 @@ pub enum Refusal {
 impl Refusal {
     /// The refusal that an answer carries, if it is one.
     pub(crate) fn check(answer: &raw::Answer) -> Result<(), Refusal> {
-        let (argument, offset) = (answer.argument, answer.offset);
         if answer.kind != 0 {
             return Ok(());
         }
-        Err(match answer.number {
+        Err(Self::of(answer.number, answer.argument, answer.offset))
+    }
+
+    /// The refusal with these numbers.
+    pub(crate) fn of(number: u32, argument: u32, offset: u64) -> Refusal {
+        match number {
             1 => Refusal::BadField { argument, offset },
             2 => Refusal::OutOfOrder { argument, offset },
             3 => Refusal::DoesNotFit { argument, offset },
@@ -51,12 +57,13 @@ impl Refusal {
             8 => Refusal::BadKeep,
             9 => Refusal::StoreFull,
             10 => Refusal::TooLong { argument },
+            11 => Refusal::BadList,
             12 => Refusal::Senseless { argument, offset },
             number => unreachable!("refusal {number}"),
-        })
+        }
     }
 
-    /// The refusal's number, 1 to 10 or 12.
+    /// The refusal's number, 1 to 12.
     pub fn number(self) -> u32 {
         match self {
             Refusal::BadField { .. } => 1,
@@ -69,6 +76,7 @@ impl Refusal {
             Refusal::BadKeep => 8,
             Refusal::StoreFull => 9,
             Refusal::TooLong { .. } => 10,
+            Refusal::BadList => 11,
             Refusal::Senseless { .. } => 12,
         }
     }
@@ -117,6 +125,7 @@ impl fmt::Display for Refusal {
             Refusal::BadKeep => f.write_str("a history keeps 1 to 64 deltas"),
             Refusal::StoreFull => f.write_str("the snapshot, or the deltas to be held, exceed their store"),
             Refusal::TooLong { argument } => write!(f, "argument {argument} is over its length limit"),
+            Refusal::BadList => f.write_str("a list has more than 384 queries, or is cut inside one"),
             Refusal::Senseless { argument, offset } => write!(
                 f,
                 "argument {argument}: the ASPA at {offset} has no providers, or names its customer among them"

@@ -1,8 +1,8 @@
 //! Each wrapper once or twice: what comes back in Rust's words. What the answers ought to be for all
 //! kinds of input is the oracle's business.
 use taplevung::{
-    apply, construct, merge, timing, Constructed, Delta, History, Refusal, Serial, Session, Timing, Updated,
-    DELTA_LIMIT, SNAPSHOT_LIMIT,
+    apply, construct, merge, raw, timing, Constructed, Delta, History, Refusal, Reply, Serial, Session,
+    Timing, Updated, DELTA_LIMIT, QUERY_LIMIT, SNAPSHOT_LIMIT,
 };
 
 /// A field of an ASPA: tag, customer, providers.
@@ -138,5 +138,82 @@ fn intervals() {
         [(7_200, 600, 7_201), (7_200, 7_200, 7_201), (7_200, 7_201, 7_201), (599, 0, 600)]
     {
         assert_eq!(timing(Timing { refresh: 1, retry, expire }), Timing { refresh: 1, retry, expire: given });
+    }
+}
+
+/// A history of the session 7 at serial 4, each delta with one more item than the one before.
+fn four_changes() -> History {
+    let mut history = History::new(7, 3, 1000, 1000).unwrap();
+    let mut snapshot = vec![];
+    for customer in [&[1u32][..], &[2], &[3, 4], &[5, 6, 7], &[8, 9, 10, 11]] {
+        for customer in customer {
+            snapshot.extend(aspa(3, *customer, &[20]));
+        }
+        history.update(&snapshot).unwrap();
+    }
+    history
+}
+
+/// The same queries one by one, each with the output still unused.
+fn one_by_one(
+    history: &History,
+    asked: &[(Session, Serial)],
+    out: &mut [u8],
+) -> (Vec<Result<Reply, Refusal>>, usize) {
+    let mut used = 0;
+    let ask = |(session, serial): &(Session, Serial)| {
+        let served = history.query(*session, *serial, &mut out[used..])?;
+        let offset = used;
+        used += served.delta.length;
+        Ok(Reply { offset, delta: served.delta })
+    };
+    (asked.iter().map(ask).collect(), used)
+}
+
+#[test]
+fn an_appliance() {
+    let history = four_changes();
+    let asked: Vec<_> =
+        [(7, 3), (7, 1), (8, 3), (7, 3), (7, 0), (7, 4), (7, 1), (7, 2), (7, 9), (7, 2), (7, 3)]
+            .map(|(session, serial)| (Session(session), Serial(serial)))
+            .into();
+    let whole = history.query_all(&asked, &mut [0; 2000]).unwrap().length;
+    for room in 0..=whole + 9 {
+        let (mut out, mut alone) = (vec![5; room], vec![5; room]);
+        let replies = history.query_all(&asked, &mut out).unwrap();
+        let (expected, used) = one_by_one(&history, &asked, &mut alone);
+        assert_eq!(replies.iter().collect::<Vec<_>>(), expected, "room {room}");
+        assert_eq!((replies.length, replies.session, replies.serial), (used, Session(7), Serial(4)));
+        assert_eq!(out, alone, "room {room}");
+    }
+    assert!(
+        history.query_all(&asked, &mut vec![0; whole]).unwrap().iter().filter(|r| r.is_ok()).count() == 8
+    );
+    assert!(history.query_all(&asked, &mut []).unwrap().iter().nth(5).unwrap().is_ok());
+}
+
+#[test]
+fn lists_of_queries() {
+    let history = four_changes();
+    let mut out = [5; 9000];
+    assert_eq!(history.query_all(&[], &mut out).unwrap().iter().len(), 0);
+    assert!(out.iter().all(|b| *b == 5));
+    let most = history.query_all(&[(Session(7), Serial(3)); QUERY_LIMIT], &mut out).unwrap();
+    assert_eq!((most.iter().len(), most.iter().filter(|r| r.is_ok()).count()), (384, 9000 / 44));
+    let more = history.query_all(&[(Session(7), Serial(3)); QUERY_LIMIT + 1], &mut out);
+    assert_eq!(more.unwrap_err(), Refusal::BadList);
+
+    // a list that is cut, and 7 before 11; a refused call has zeros and writes nothing
+    let (snapshots, deltas) = (history.full().unwrap().snapshot, vec![0; 1000]);
+    let mut state = History::new(7, 3, 0, 0).unwrap().state();
+    for (queries, keep, number) in [(6, 3, 0), (5, 3, 11), (2305, 3, 11), (2310, 3, 11), (7, 0, 7), (6, 0, 7)]
+    {
+        state.keep = keep;
+        let mut out = [5; 10];
+        let all = raw::query_all(state, snapshots, &deltas, &vec![0; queries], &mut out);
+        assert_eq!((all.answer.number, all.count), (number, u32::from(number == 0)));
+        assert_eq!(all.answer.kind, u32::from(number == 0));
+        assert!(all.replies.iter().skip(1).all(|r| *r == all.replies[383]));
+        assert_eq!(out, [5; 10]);
     }
 }

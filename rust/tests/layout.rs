@@ -4,7 +4,7 @@ use std::mem::{offset_of, size_of};
 use std::path::Path;
 use std::process::Command;
 
-use taplevung::raw::{Answer, Made, Notice, Sent, State, Told};
+use taplevung::raw::{Answer, Made, Notice, Replies, Reply, Sent, State, Told};
 use taplevung::{Serial, Session, Timing};
 
 /// The C program's lines, and the lines that Rust's layout makes. The names of a struct's fields are
@@ -41,6 +41,11 @@ fn same_as_in_c() {
         }
         taplevung_made Made { answer = answer, state = state }
         taplevung_told Told { session = session, answer = answer }
+        taplevung_reply Reply {
+            kind = kind, number = number, offset = offset, length = length, announced = announced,
+            withdrawn = withdrawn
+        }
+        taplevung_replies Replies { answer = answer, session = session, count = count, replies = replies }
         taplevung_notice Notice { session = session, serial = serial }
         taplevung_timing_values Timing { refresh = refresh, retry = retry, expire = expire }
         taplevung_sent Sent {

@@ -1,7 +1,7 @@
 -- Document 01's number, argument and offset for each refusal.
 use Prim.Native.Nat.{ℕ}
 use Rattle.delta.specs.declared.refusal.Refusal.{Refusal}
-use Rattle.delta.specs.declared.refusal.Refusal.the-variants.{Bad, NotAbove, CannotApply, NoRoom, OtherSession, NotServed, IllFormed, BadKeep, StoreFull, TooLong, Senseless}
+use Rattle.delta.specs.declared.refusal.Refusal.the-variants.{Bad, NotAbove, CannotApply, NoRoom, OtherSession, NotServed, IllFormed, BadKeep, StoreFull, TooLong, BadList, Senseless}
 
 abbrev pub numberOf : Refusal → ℕ
 numberOf (Bad argument at) = 1
@@ -14,6 +14,7 @@ numberOf IllFormed = 7
 numberOf BadKeep = 8
 numberOf StoreFull = 9
 numberOf (TooLong argument) = 10
+numberOf BadList = 11
 numberOf (Senseless argument at) = 12
 
 -- 1 or 2 for numbers 1, 2, 3, 10 and 12, where a delta that cannot be applied is the second; else 0
@@ -28,6 +29,7 @@ argumentOf IllFormed = 0
 argumentOf BadKeep = 0
 argumentOf StoreFull = 0
 argumentOf (TooLong argument) = argument
+argumentOf BadList = 0
 argumentOf (Senseless argument at) = argument
 
 -- for 1, 2, 3 and 12 the start of the field; else 0
@@ -42,6 +44,7 @@ offsetOf IllFormed = 0
 offsetOf BadKeep = 0
 offsetOf StoreFull = 0
 offsetOf (TooLong argument) = 0
+offsetOf BadList = 0
 offsetOf (Senseless argument at) = at
 
 -- the three together

@@ -22,6 +22,8 @@ pub enum Refusal {
     StoreFull,
     // An input, or a store at creation, is over its length limit.
     TooLong { argument: u8 },
+    // A list of queries has more than 384 of them, or is cut inside one.
+    BadList,
     // An ASPA has no providers, or names its customer among them.
     Senseless { argument: u8, at: usize },
 }
@@ -41,6 +43,7 @@ impl Refusal {
             Refusal::BadKeep => 8,
             Refusal::StoreFull => 9,
             Refusal::TooLong { argument: _ } => 10,
+            Refusal::BadList => 11,
             Refusal::Senseless { argument: _, at: _ } => 12,
         }
     }
@@ -59,6 +62,7 @@ impl Refusal {
             Refusal::BadKeep => 0,
             Refusal::StoreFull => 0,
             Refusal::TooLong { argument } => argument,
+            Refusal::BadList => 0,
             Refusal::Senseless { argument, at: _ } => argument,
         }
     }
@@ -77,6 +81,7 @@ impl Refusal {
             Refusal::BadKeep => 0,
             Refusal::StoreFull => 0,
             Refusal::TooLong { argument: _ } => 0,
+            Refusal::BadList => 0,
             Refusal::Senseless { argument: _, at } => at,
         }
     }

@@ -34,7 +34,7 @@ use Rattle.past.specs.declared.query.Answer.the-variants.{Served}
 use Rattle.past.specs.declared.query.Queried.{Queried}
 use Rattle.past.specs.Store.{total, heldLengths, heldDeltas}
 use Rattle.past.specs.WellFormed.{isFine, isGood, every, goodKeep, inRange, goodSerial, goodStart, goodStores, goodHeld, wellFormed}
-use Rattle.past.specs.Query.{isServed, isSession, passes, queryAdmitted, mergedLast, refusedWith, queryAt, queryOf, queryOut}
+use Rattle.past.specs.Query.{isServed, isSession, passes, asksOf, queryAdmitted, mergedLast, refusedWith, queryAt, queryOf, queryOut}
 use Rattle.history.specs.Place.{IsFine, Stored, lastMerged}
 use Rattle.past.proofs.Served.{served-rule, rule-within}
 
@@ -52,24 +52,31 @@ module _ (start : Serial) (n : ℕ) (asked : Serial) (d : ℕ) where
 
 pub ruleset testing = (session-is, served-start, served-held)
 
--- ---- 7, then 5, then 6
+-- ---- 5, then 6
+
+module _ (h : History) (session : Session) (asked : Serial) (u : Bool) (f : u ≡ isSession h session) where
+  pub ask-session : not u ≡ true → No OtherSession ≡ asksOf h session asked
+  ask-session p = rw (← f, not-true u p)
+
+  module _ (p : not u ≡ false) (d : ℕ) (i : d ≡ distanceOf (h .newest) asked) (v : Bool) (g : v ≡ isServed (h .start) (h .n) asked d) where
+    pub ask-serial : not v ≡ true → No NotServed ≡ asksOf h session asked
+    ask-serial o = rw (← f, not-false u p, ← i, ← g, not-true v o)
+
+    pub ask-served : not v ≡ false → Yes ≡ asksOf h session asked
+    ask-served o = rw (← f, not-false u p, ← i, ← g, not-false v o)
+
+pub ruleset asking = (ask-session, ask-serial, ask-served)
+
+-- ---- 7, then 5 and 6
 
 module _ (h : History) (session : Session) (asked : Serial) (snapshots deltas : Bytes) (t : Bool) (e : t ≡ wellFormed h snapshots deltas) where
-  pub ask-formed : not t ≡ true → No IllFormed ≡ queryAdmitted h session asked snapshots deltas
-  ask-formed q = rw (← e, not-true t q)
+  pub admit-formed : not t ≡ true → No IllFormed ≡ queryAdmitted h session asked snapshots deltas
+  admit-formed q = rw (← e, not-true t q)
 
-  module _ (q : not t ≡ false) (u : Bool) (f : u ≡ isSession h session) where
-    pub ask-session : not u ≡ true → No OtherSession ≡ queryAdmitted h session asked snapshots deltas
-    ask-session p = rw (← e, not-false t q, ← f, not-true u p)
+  pub admit-asked : not t ≡ false → (x : Admitted) → x ≡ asksOf h session asked → x ≡ queryAdmitted h session asked snapshots deltas
+  admit-asked q x i = i ∙ rw (← e, not-false t q)
 
-    module _ (p : not u ≡ false) (d : ℕ) (i : d ≡ distanceOf (h .newest) asked) (v : Bool) (g : v ≡ isServed (h .start) (h .n) asked d) where
-      pub ask-serial : not v ≡ true → No NotServed ≡ queryAdmitted h session asked snapshots deltas
-      ask-serial o = rw (← e, not-false t q, ← f, not-false u p, ← i, ← g, not-true v o)
-
-      pub ask-served : not v ≡ false → Yes ≡ queryAdmitted h session asked snapshots deltas
-      ask-served o = rw (← e, not-false t q, ← f, not-false u p, ← i, ← g, not-false v o)
-
-pub ruleset asking = (ask-formed, ask-session, ask-serial, ask-served)
+pub ruleset admitting = (admit-formed, admit-asked)
 
 -- ---- serve
 

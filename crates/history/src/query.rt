@@ -20,7 +20,7 @@ ghost use Rattle.delta.specs.declared.admit.Admitted.the-variants.{Yes};
 ghost use Rattle.delta.specs.Answer.{outAfter};
 ghost use Rattle.past.specs.Store.{heldDeltas};
 ghost use Rattle.history.specs.Place.{Stored};
-ghost use Rattle.past.specs.Query.{isServed, isSession, queryAdmitted, mergedLast, refusedWith, queryAt, queryOf, queryOut};
+ghost use Rattle.past.specs.Query.{isServed, isSession, asksOf, queryAdmitted, mergedLast, refusedWith, queryAt, queryOf, queryOut};
 
 // A refused query: other numbers 0.
 fn refused(refusal: Refusal) -> Queried
@@ -51,7 +51,22 @@ pub fn is_served(start: Serial, n: u32, asked: Serial, d: u32) -> bool
     d <= n
 }
 
-// Refusals 7, 5 and 6.
+// Refusals 5 and 6.
+pub fn asks(history: History, session: Session, asked: Serial) -> Admitted
+    ensures { λ r. ⌜ r ≡ asksOf history session asked ⌝ }
+{
+    if !is_session(history, session) {
+        return Admitted::No(Refusal::OtherSession);
+    }
+    let newest = history.newest;
+    let start = history.start;
+    if !is_served(start, history.n, asked, distance(newest, asked)) {
+        return Admitted::No(Refusal::NotServed);
+    }
+    Admitted::Yes
+}
+
+// Refusal 7, then 5 and 6.
 fn admit_query(
     history: History,
     session: Session,
@@ -64,19 +79,11 @@ fn admit_query(
     if !well_formed(history, snapshots, deltas) {
         return Admitted::No(Refusal::IllFormed);
     }
-    if !is_session(history, session) {
-        return Admitted::No(Refusal::OtherSession);
-    }
-    let newest = history.newest;
-    let start = history.start;
-    if !is_served(start, history.n, asked, distance(newest, asked)) {
-        return Admitted::No(Refusal::NotServed);
-    }
-    Admitted::Yes
+    asks(history, session, asked)
 }
 
 // The last d deltas of a history, merged.
-fn serve(history: History, d: u32, deltas: &[u8], out: &mut [u8]) -> Queried
+pub fn serve(history: History, d: u32, deltas: &[u8], out: &mut [u8]) -> Queried
     requires { ⌜ Stored (now deltas) (history .deltas) (history .n) × (d ≤ history .n) ⌝ }
     ensures { λ r. ⌜ (r ≡ queryAt Yes history (mergedLast d (heldDeltas history (now (deltas .entry)))) (length (now (out .entry)))) × (now (out .exit) ≡ outAfter Yes (mergedLast d (heldDeltas history (now (deltas .entry)))) (now (out .entry))) ⌝ }
 {

@@ -5,6 +5,8 @@ use mathlib.Core.Bool.{Bool}
 use Rattle.serial.specs.declared.Serial.{Serial}
 use Rattle.serial.specs.declared.Session.{Session}
 use Rattle.delta.specs.declared.refusal.Refusal.{Refusal}
+use Rattle.delta.specs.declared.admit.Admitted.{Admitted}
+use Rattle.delta.specs.declared.admit.Admitted.the-variants.{Yes, No}
 use Rattle.item.specs.declared.sink.Counts.{Counts}
 use Rattle.past.specs.declared.state.History.{History}
 use Rattle.past.specs.declared.create.Creation.{Creation}
@@ -24,13 +26,16 @@ use Rattle.past.specs.Query.{queryOf, queryOut}
 use Rattle.past.specs.Full.{fullOf, notifyOf, readyOf}
 use Rattle.past.specs.Update.{updateOf, updateSnapshots, updateDeltas}
 use Rattle.payload.specs.Content.{Bytes}
+use Rattle.appliance.specs.declared.reply.Replied.{Replied}
+use Rattle.appliance.specs.QueryAll.{queryAllOf, queryAllOut}
 use Rattle.host.specs.declared.answer.Answer.{Answer}
 use Rattle.host.specs.declared.state.State.{State}
 use Rattle.host.specs.declared.told.Made.{Made}
 use Rattle.host.specs.declared.told.Told.{Told}
+use Rattle.host.specs.declared.told.Replies.{Replies}
 use Rattle.host.specs.Flat.{refused, wrote, ofLength}
 use Rattle.host.specs.State.{historyOf, markOf, stateOf}
-use Rattle.host.specs.Told.{flatCreation, madeCreated, flatUpdate, stateAfter, madeUpdated, flatQuery, toldQueried, flatFull, toldFull}
+use Rattle.host.specs.Told.{flatCreation, madeCreated, flatUpdate, stateAfter, madeUpdated, flatQuery, toldQueried, flatFull, toldFull, flatList, flatReplied}
 
 pub state-is : (h : History) (a : ℕ) → a ≡ markOf (h .active) →
     record { session = h .session; keep = h .keep; active = a; newest = h .newest; start = h .start; n = h .n; snapshot = h .snapshot; deltas = h .deltas } ≡ stateOf h
@@ -106,7 +111,18 @@ module _ (x : FullAnswer) (serial : Serial) (a : Answer) where
 pub full-told : (f : Full) (a : Answer) → a ≡ flatFull (f .answer) (f .serial) → record { session = f .session; answer = a } ≡ toldFull f
 full-told f a p = told-path p
 
-pub ruleset telling = (state-is, creation-done, creation-refused, created-made, update-first, update-same, update-changed, update-refused, after-first, after-same, after-changed, after-refused, updated-made, query-served, query-refused, queried-told, full-held, full-refused, full-told)
+module _ (x : Admitted) (serial : Serial) (used : ℕ) (a : Answer) where
+  pub list-yes : (k : Counts) → x ≡ Yes → k ≡ ofLength used → a ≡ wrote 1 serial k → a ≡ flatList x serial used
+  list-yes k e d q = rw e (of-length 1 used serial k a d q)
+
+  pub list-no : (r : Refusal) → x ≡ No r → a ≡ refused r → a ≡ flatList x serial used
+  list-no r e q = rw e q
+
+pub replied-flat : (r : Replied) (a : Answer) → a ≡ flatList (r .admitted) (r .serial) (r .used) →
+    record { answer = a; session = r .session; count = r .count; replies = r .replies } ≡ flatReplied r
+replied-flat r a p = λ i. record { answer = p i; session = r .session; count = r .count; replies = r .replies }
+
+pub ruleset telling = (state-is, creation-done, creation-refused, created-made, update-first, update-same, update-changed, update-refused, after-first, after-same, after-changed, after-refused, updated-made, query-served, query-refused, queried-told, full-held, full-refused, full-told, list-yes, list-no, replied-flat)
 
 -- ---- the calls: a history by value is the one that its state is
 
@@ -114,6 +130,13 @@ pub created-through : (m : Made) (c d : Created) → m ≡ madeCreated c → c �
 created-through m c d q e = q ∙ ap madeCreated e
 
 module _ (s : State) (h : History) (e : h ≡ historyOf s) where
+  pub replied-through : (t : Replies) (c : Replied) (a b q o : Bytes) → t ≡ flatReplied c → c ≡ queryAllOf h a b q o →
+      t ≡ flatReplied (queryAllOf (historyOf s) a b q o)
+  replied-through t c a b q o i f = i ∙ ap flatReplied f ∙ ap (λ (k : History). flatReplied (queryAllOf k a b q o)) e
+
+  pub replied-out : (a b q o o′ : Bytes) → o′ ≡ queryAllOut h a b q o → o′ ≡ queryAllOut (historyOf s) a b q o
+  replied-out a b q o o′ f = f ∙ ap (λ (k : History). queryAllOut k a b q o) e
+
   pub queried-through : (t : Told) (c : Queried) (x : Session) (y : Serial) (a b : Bytes) (n : ℕ) → t ≡ toldQueried c → c ≡ queryOf h x y a b n →
       t ≡ toldQueried (queryOf (historyOf s) x y a b n)
   queried-through t c x y a b n q f = q ∙ ap toldQueried f ∙ ap (λ (k : History). toldQueried (queryOf k x y a b n)) e
@@ -139,4 +162,4 @@ module _ (s : State) (h : History) (e : h ≡ historyOf s) where
   pub updated-deltas : (p new a b : Bytes) → p ≡ updateDeltas h new a b → p ≡ updateDeltas (historyOf s) new a b
   updated-deltas p new a b q = q ∙ ap (λ (k : History). updateDeltas k new a b) e
 
-pub ruleset calling = (created-through, queried-through, queried-out, full-through, notify-through, ready-through, updated-through, updated-snapshots, updated-deltas)
+pub ruleset calling = (replied-through, replied-out, created-through, queried-through, queried-out, full-through, notify-through, ready-through, updated-through, updated-snapshots, updated-deltas)

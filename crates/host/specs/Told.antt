@@ -1,5 +1,8 @@
 -- What the calls on a history hand back.
+use Prim.Native.Nat.{ℕ}
 use Rattle.serial.specs.declared.Serial.{Serial}
+use Rattle.delta.specs.declared.admit.Admitted.{Admitted}
+use Rattle.delta.specs.declared.admit.Admitted.the-variants.{Yes, No}
 use Rattle.past.specs.declared.create.Creation.{Creation}
 use Rattle.past.specs.declared.create.Creation.the-variants as creation
 use Rattle.past.specs.declared.create.Created.{Created}
@@ -12,10 +15,12 @@ use Rattle.past.specs.declared.query.Queried.{Queried}
 use Rattle.past.specs.declared.full.FullAnswer.{FullAnswer}
 use Rattle.past.specs.declared.full.FullAnswer.the-variants as full
 use Rattle.past.specs.declared.full.Full.{Full}
+use Rattle.appliance.specs.declared.reply.Replied.{Replied}
 use Rattle.host.specs.declared.answer.Answer.{Answer}
 use Rattle.host.specs.declared.state.State.{State}
 use Rattle.host.specs.declared.told.Made.{Made}
 use Rattle.host.specs.declared.told.Told.{Told}
+use Rattle.host.specs.declared.told.Replies.{Replies}
 use Rattle.host.specs.Flat.{refused, wrote, ofLength}
 use Rattle.host.specs.State.{stateOf}
 
@@ -60,3 +65,12 @@ flatFull (full.Refused r) serial = refused r
 
 abbrev pub toldFull : Full → Told
 toldFull f = record { session = f .session; answer = flatFull (f .answer) (f .serial) }
+
+-- 1 the queries were answered, with the newest serial and the length that is used of the output
+abbrev pub flatList : Admitted → Serial → ℕ → Answer
+flatList Yes serial used = wrote 1 serial (ofLength used)
+flatList (No r) serial used = refused r
+
+-- with the 16-bit session and a reply for each query
+abbrev pub flatReplied : Replied → Replies
+flatReplied r = record { answer = flatList (r .admitted) (r .serial) (r .used); session = r .session; count = r .count; replies = r .replies }

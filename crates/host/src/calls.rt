@@ -8,11 +8,14 @@ use crate::sent::sent_as;
 use crate::state::State;
 use crate::state::history_of;
 use crate::told::Made;
+use crate::told::Replies;
 use crate::told::Told;
 use crate::told::created_as;
 use crate::told::queried_as;
+use crate::told::replied_as;
 use crate::told::told_full;
 use crate::told::updated_as;
+use appliance::query_all::query_all;
 use delta::apply::apply;
 use delta::construct::construct;
 use delta::merge::merge;
@@ -39,11 +42,12 @@ ghost use Rattle.past.specs.Create.{createOf};
 ghost use Rattle.past.specs.Query.{queryOf, queryOut};
 ghost use Rattle.past.specs.Update.{updateOf, updateSnapshots, updateDeltas};
 ghost use Rattle.past.specs.Full.{fullOf, notifyOf, readyOf};
+ghost use Rattle.appliance.specs.QueryAll.{queryAllOf, queryAllOut};
 ghost use Rattle.message.specs.declared.version.Version.the-variants.{Rfc8210};
 ghost use Rattle.wire.specs.Answer.{sentAt, outAt, queryPlan, fullPlan, notifyPlan};
 ghost use Rattle.host.specs.State.{historyOf};
 ghost use Rattle.host.specs.Sent.{flatSent};
-ghost use Rattle.host.specs.Told.{madeCreated, madeUpdated, toldQueried, toldFull};
+ghost use Rattle.host.specs.Told.{madeCreated, madeUpdated, toldQueried, toldFull, flatReplied};
 ghost use Rattle.host.specs.Flat.{flatConstructed, flatMerged, flatApplied};
 
 #[no_mangle]
@@ -127,6 +131,20 @@ pub extern "C" fn taplevung_query(
 {
     let h = history_of(state);
     queried_as(query(h, session, serial, snapshots, deltas, out))
+}
+
+#[no_mangle]
+pub extern "C" fn taplevung_query_all(
+    state: State,
+    snapshots: &[u8],
+    deltas: &[u8],
+    queries: &[u8],
+    out: &mut [u8],
+) -> Replies
+    ensures { λ r. ⌜ (r ≡ flatReplied (queryAllOf (historyOf state) (now (snapshots .entry)) (now (deltas .entry)) (now (queries .entry)) (now (out .entry)))) × (now (out .exit) ≡ queryAllOut (historyOf state) (now (snapshots .entry)) (now (deltas .entry)) (now (queries .entry)) (now (out .entry))) ⌝ }
+{
+    let h = history_of(state);
+    replied_as(query_all(h, snapshots, deltas, queries, out))
 }
 
 #[no_mangle]

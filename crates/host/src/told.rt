@@ -5,6 +5,9 @@ use crate::answer::refused_as;
 use crate::answer::wrote_as;
 use crate::state::State;
 use crate::state::state_of;
+use appliance::reply::Replied;
+use appliance::reply::Reply;
+use delta::admit::Admitted;
 use past::create::Created;
 use past::create::Creation;
 use past::full::Full;
@@ -15,7 +18,7 @@ use past::update::Updated;
 use serial::Serial;
 use serial::Session;
 ghost use mathlib.Core.Path.{_≡_};
-ghost use Rattle.host.specs.Told.{flatCreation, madeCreated, flatUpdate, stateAfter, madeUpdated, flatQuery, toldQueried, flatFull, toldFull};
+ghost use Rattle.host.specs.Told.{flatCreation, madeCreated, flatUpdate, stateAfter, madeUpdated, flatQuery, toldQueried, flatFull, toldFull, flatList, flatReplied};
 
 // Of creation and update.
 #[repr(C)]
@@ -122,4 +125,38 @@ pub fn told_full(f: Full) -> Told
     let session = f.session;
     let answer = full_as(reply, serial);
     Told { session, answer }
+}
+
+// Of the queries of an appliance.
+#[repr(C)]
+pub struct Replies {
+    pub answer: Answer,
+    pub session: Session,
+    pub count: u32,
+    pub replies: [Reply; 384],
+}
+
+fn list_as(a: Admitted, serial: Serial, used: usize) -> Answer
+    ensures { λ r. ⌜ r ≡ flatList a serial used ⌝ }
+{
+    match a {
+        Admitted::Yes => wrote_as(1, serial, of_length(used)),
+        Admitted::No(r) => refused_as(r),
+    }
+}
+
+pub fn replied_as(r: Replied) -> Replies
+    ensures { λ a. ⌜ a ≡ flatReplied r ⌝ }
+{
+    let admitted = r.admitted;
+    let serial = r.serial;
+    let session = r.session;
+    let replies = r.replies;
+    let answer = list_as(admitted, serial, r.used);
+    Replies {
+        answer,
+        session,
+        count: r.count,
+        replies,
+    }
 }

@@ -63,6 +63,7 @@ impl Judge {
             Entry::Create => self.create(call, &outcome),
             Entry::Update => self.update(call, &outcome),
             Entry::Query => self.query(call, &outcome),
+            Entry::QueryAll => {} // the Rust has no such call
             Entry::Full | Entry::Notify | Entry::Ready => self.full(call, &outcome),
             Entry::Timing => self.timing(call, &outcome),
             // the Rust leaves messages to another crate
