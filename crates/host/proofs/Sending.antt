@@ -33,36 +33,11 @@ module _ (x : Reply) (serial : Serial) (a : Answer) where
   pub reply-report : (n : ℕ) → x ≡ Report n → a ≡ insteadOf 3 5 n → a ≡ flatReply x serial
   reply-report n e q = rw e q
 
-module _ (x : Reply) where
-  pub keys-refused : (r : Refusal) → x ≡ Refused r → 0 ≡ keysSkipped x
-  keys-refused r e = rw e
-
-  pub keys-data : (t : Tally) → x ≡ Data t → t .keys ≡ keysSkipped x
-  keys-data t e = rw e
-
-  pub keys-reset : (n : ℕ) → x ≡ Reset n → 0 ≡ keysSkipped x
-  keys-reset n e = rw e
-
-  pub keys-report : (n : ℕ) → x ≡ Report n → 0 ≡ keysSkipped x
-  keys-report n e = rw e
-
-  pub aspas-refused : (r : Refusal) → x ≡ Refused r → 0 ≡ aspasSkipped x
-  aspas-refused r e = rw e
-
-  pub aspas-data : (t : Tally) → x ≡ Data t → t .aspas ≡ aspasSkipped x
-  aspas-data t e = rw e
-
-  pub aspas-reset : (n : ℕ) → x ≡ Reset n → 0 ≡ aspasSkipped x
-  aspas-reset n e = rw e
-
-  pub aspas-report : (n : ℕ) → x ≡ Report n → 0 ≡ aspasSkipped x
-  aspas-report n e = rw e
-
 pub sent-is : (s : wire.Sent) (a : Answer) (m n : ℕ) → a ≡ flatReply (s .reply) (s .serial) → m ≡ keysSkipped (s .reply) → n ≡ aspasSkipped (s .reply) →
     record { answer = a; session = s .session; keys = m; aspas = n } ≡ flatSent s
 sent-is s a m n e f g = λ i. record { answer = e i; session = s .session; keys = f i; aspas = g i }
 
-pub ruleset sending = (reply-refused, reply-data, reply-reset, reply-report, keys-refused, keys-data, keys-reset, keys-report, aspas-refused, aspas-data, aspas-reset, aspas-report, sent-is)
+pub ruleset sending = (reply-refused, reply-data, reply-reset, reply-report, sent-is)
 
 -- ---- the calls: a history by value is the one that its state is
 
