@@ -7,13 +7,12 @@ use native.Mathlib.Omega.{arith}
 use native.Mathlib.Nat.{add-zero}
 use borrow.Author.Tests.{eqb-true}
 use lib.Dec.{eqb}
-use lib.ListN.{length, getD, take, drop}
+use lib.ListN.{length, getD, drop}
 use Rattle.order.specs.Map.{Item, All}
 use Rattle.change.specs.Change.{Change, announce}
 use Rattle.field.specs.declared.tag.Form.the-variants.{Snapshot, Delta}
 use Rattle.field.specs.Tag.{tagOf, kindOf}
 use Rattle.field.specs.Key.{keyOf}
-use Rattle.field.specs.Cells.{Cell, cells}
 use Rattle.field.specs.Places.{part, keyIn}
 use Rattle.field.specs.Progress.{If}
 use Rattle.field.proofs.Run.{cells-more}
@@ -30,7 +29,6 @@ use Rattle.message.specs.Message.{pdu}
 use Rattle.message.specs.Record.{messageOf}
 use Rattle.pdu.specs.Write.{Sayable, PutIs}
 use Rattle.wire.specs.declared.tally.Tally.{Tally}
-use Rattle.wire.specs.declared.origins.Run.{Run}
 use Rattle.wire.specs.Tally.{Says, ItemIs}
 use Rattle.wire.specs.Left.{Left, Listed, originKey, originAct, OriginAt, Passed}
 use Rattle.wire.proofs.Saying.{tally-path}
