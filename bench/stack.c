@@ -88,12 +88,30 @@ static uint32_t do_full(void)
     return taplevung_full(state, snapshots, STORE, deltas, STORE).answer.kind;
 }
 
+static const taplevung_timing_values times = {3600, 600, 7200};
+
+static uint32_t do_query_messages(void)
+{
+    taplevung_session session = {(uint16_t)state.session};
+    taplevung_serial oldest = {state.newest.value - state.n};
+    return taplevung_query_messages(state, session, oldest, times, snapshots, STORE, deltas, STORE, out, STORE).answer.kind;
+}
+static uint32_t do_full_messages(void)
+{
+    return taplevung_full_messages(state, times, snapshots, STORE, deltas, STORE, out, STORE).answer.kind;
+}
+static uint32_t do_notify_message(void)
+{
+    return taplevung_notify_message(state, out, STORE).answer.kind;
+}
+
 static const struct {
     const char *name;
     uint32_t (*make)(void);
 } calls[] = {
     {"construct", do_construct}, {"merge", do_merge}, {"apply", do_apply}, {"create", do_create},
     {"update", do_update},       {"query", do_query}, {"query_all", do_query_all}, {"full", do_full},
+    {"query_messages", do_query_messages}, {"full_messages", do_full_messages}, {"notify_message", do_notify_message},
 };
 enum { CALLS = sizeof calls / sizeof *calls };
 

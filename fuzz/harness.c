@@ -453,6 +453,28 @@ static void update(struct input *in, struct history *h, uint32_t places)
     LAW(same_from(1, snapshots, 0) && same_from(2, deltas, 0));
 }
 
+/* The last d deltas, merged one after another. */
+static const uint8_t *since(const struct history *h, uint32_t d, size_t *length)
+{
+    const taplevung_state *s = &h->state;
+    uint8_t *now = scratch[0], *then = scratch[1];
+    size_t at = 0;
+    *length = 0;
+    for (uint32_t i = 0; i < s->n; at += s->deltas[i++])
+        if (i + d >= s->n) {
+            *length = merge_into(then, now, *length, h->deltas + at, s->deltas[i]);
+            uint8_t *swap = now;
+            now = then;
+            then = swap;
+        }
+    return now;
+}
+
+static int is_served(const taplevung_state *s, taplevung_serial serial)
+{
+    return s->n == 0 ? serial.value == s->start.value : s->newest.value - serial.value <= s->n;
+}
+
 static void query(struct input *in, struct history *h, uint32_t places)
 {
     uint32_t behind = u8(in);
@@ -467,26 +489,85 @@ static void query(struct input *in, struct history *h, uint32_t places)
     const taplevung_answer *a = &told.answer;
     note(4, a);
     uint32_t d = s->newest.value - serial.value;
-    int served = s->n == 0 ? serial.value == s->start.value : d <= s->n;
-    uint32_t number = !formed(h) ? 7 : session.value != (uint16_t)s->session ? 5 : !served ? 6 : 0;
+    uint32_t number = !formed(h) ? 7 : session.value != (uint16_t)s->session ? 5 : !is_served(s, serial) ? 6 : 0;
     if (number != 0) {
         LAW(refused_with(a, number, 0, 0) && told.session.value == 0 && same_from(2, out, 0));
         return;
     }
-    /* the last d deltas, merged one after another */
-    uint8_t *now = scratch[0], *then = scratch[1];
-    size_t length = 0, at = 0;
-    for (uint32_t i = 0; i < s->n; at += s->deltas[i++])
-        if (i + d >= s->n) {
-            length = merge_into(then, now, length, h->deltas + at, s->deltas[i]);
-            uint8_t *swap = now;
-            now = then;
-            then = swap;
-        }
+    size_t length;
+    const uint8_t *now = since(h, d, &length);
     if (written(a, out, DELTA, now, length))
         LAW(a->kind == 1 && a->serial.value == s->newest.value && told.session.value == (uint16_t)s->session);
     else
         LAW(told.session.value == 0);
+}
+
+/* Messages, as far as what they are is in scratch[2]: these and no more, or refusal 4 and nothing. 1 if written. */
+static int sent_all(const taplevung_sent *sent, struct slice out, uint32_t kind, uint32_t number, size_t length)
+{
+    const taplevung_answer *a = &sent->answer;
+    if (length > out.length) {
+        LAW(refused_with(a, 4, 0, 0) && sent->session.value == 0 && sent->aspas_skipped == 0);
+        LAW(sent->router_keys_skipped == 0 && same_from(2, out, 0));
+        return 0;
+    }
+    LAW(a->kind == kind && a->number == number && a->argument == 0 && a->offset == 0 && a->length == length);
+    LAW(memcmp(out.bytes, scratch[2], length) == 0 && same_from(2, out, length));
+    LAW(sent->router_keys_skipped == 0);
+    return 1;
+}
+
+/* The same of data: what the messages count, and what they name. */
+static void sent_data(const taplevung_sent *sent, struct slice out, const taplevung_state *s, struct messages m)
+{
+    const taplevung_answer *a = &sent->answer;
+    if (!sent_all(sent, out, 1, 0, m.length))
+        return;
+    LAW(a->serial.value == s->newest.value && sent->session.value == (uint16_t)s->session);
+    LAW(a->announced == m.announced && a->withdrawn == m.withdrawn && sent->aspas_skipped == m.aspas);
+}
+
+static void messages(struct input *in, struct history *h, uint32_t places)
+{
+    uint32_t behind = u8(in), what = u8(in);
+    const taplevung_state *s = &h->state;
+    taplevung_session session = {(uint16_t)(s->session ^ (places >> 7))};
+    taplevung_serial serial = {s->newest.value - (behind & 128 ? u32(in) : behind)};
+    taplevung_timing_values times = {what & 4 ? u32(in) : 3600, what & 8 ? u32(in) : 600, what & 16 ? u32(in) : 7200};
+    struct slice snapshots = lend(0, h->snapshots, h->snapshots_length, places & 1, 0);
+    struct slice deltas = lend(1, h->deltas, h->deltas_length, places & 2, 0);
+    struct slice out = lend_output(2, room(in, places), places & 4);
+    uint16_t own = (uint16_t)s->session;
+    if ((what & 3) == 0) {
+        taplevung_sent sent = taplevung_notify_message(*s, out.bytes, out.length);
+        note(7, &sent.answer);
+        put_serial(scratch[2], 0, own, s->newest.value);
+        struct messages m = {12, 0, 0, 0};
+        sent_data(&sent, out, s, m);
+        return;
+    }
+    int full = (what & 3) == 1;
+    taplevung_sent sent = full ? taplevung_full_messages(*s, times, snapshots.bytes, snapshots.length, deltas.bytes,
+                                                         deltas.length, out.bytes, out.length)
+                               : taplevung_query_messages(*s, session, serial, times, snapshots.bytes, snapshots.length,
+                                                          deltas.bytes, deltas.length, out.bytes, out.length);
+    note(8 + full, &sent.answer);
+    if (!formed(h)) {
+        LAW(refused_with(&sent.answer, 7, 0, 0) && sent.session.value == 0 && same_from(2, out, 0));
+        LAW(sent.router_keys_skipped == 0 && sent.aspas_skipped == 0);
+    } else if (full) {
+        sent_data(&sent, out, s, messages_into(scratch[2], SNAPSHOT, h->snapshots, s->snapshot, own, s->newest.value, times));
+    } else if (session.value == own && is_served(s, serial)) {
+        size_t length;
+        const uint8_t *now = since(h, s->newest.value - serial.value, &length);
+        sent_data(&sent, out, s, messages_into(scratch[2], DELTA, now, length, own, s->newest.value, times));
+    } else {
+        int other = session.value != own;
+        uint8_t *end = other ? put_error(scratch[2], session.value, serial.value) : put_header(scratch[2], 8, 0, 8);
+        if (sent_all(&sent, out, other ? 3 : 2, other ? 5 : 6, (size_t)(end - scratch[2])))
+            LAW(sent.session.value == 0 && sent.aspas_skipped == 0 && sent.answer.serial.value == 0 &&
+                sent.answer.announced == 0 && sent.answer.withdrawn == 0);
+    }
 }
 
 /* Queries in one call: as one by one, each with the output still unused. */
@@ -509,7 +590,7 @@ static void query_all(struct input *in, struct history *h, uint32_t places)
     memcpy(alone, out.bytes, out.length);
     taplevung_replies all = taplevung_query_all(*s, snapshots.bytes, snapshots.length, deltas.bytes, deltas.length,
                                                 list, length, out.bytes, out.length);
-    note(6, &all.answer);
+    note(10, &all.answer);
     uint32_t number = !formed(h) ? 7 : length % 6 != 0 || count > TAPLEVUNG_QUERY_LIMIT ? 11 : 0;
     if (number != 0) {
         LAW(refused_with(&all.answer, number, 0, 0) && all.session.value == 0 && all.count == 0 && same_from(2, out, 0));
@@ -643,8 +724,10 @@ static void history(struct input *in)
             update(in, &h, what);
             break;
         case 3:
-        case 4:
             query(in, &h, what);
+            break;
+        case 4:
+            messages(in, &h, what);
             break;
         case 5:
             query_all(in, &h, what);

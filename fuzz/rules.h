@@ -1,6 +1,6 @@
 /*
  * Document 01's rules and those of the requests once more, in C: what is good, what a well-formed history is, difference,
- * merge, application and the times. The library is held to these.
+ * merge, application, the times and the router messages. The library is held to these.
  */
 #ifndef RULES_H
 #define RULES_H
@@ -320,6 +320,85 @@ static taplevung_timing_values timing_of(uint32_t refresh, uint32_t retry, uint3
     if (t.expire <= t.retry)
         t.expire = t.retry + 1;
     return t;
+}
+
+/*------------ Router messages, RFC 8210, version 1 -------------------------*/
+
+static uint8_t *put32(uint8_t *p, uint32_t x)
+{
+    for (int i = 0; i < 4; i++)
+        p[i] = (uint8_t)(x >> (24 - 8 * i));
+    return p + 4;
+}
+
+static uint8_t *put_run(uint8_t *p, const uint8_t *from, size_t n)
+{
+    memcpy(p, from, n);
+    return p + n;
+}
+
+static uint8_t *put_header(uint8_t *p, unsigned type, unsigned two, size_t length)
+{
+    p[0] = 1;
+    p[1] = (uint8_t)type;
+    p[2] = (uint8_t)(two >> 8);
+    p[3] = (uint8_t)two;
+    return put32(p + 4, (uint32_t)length);
+}
+
+/* A Serial Notify (type 0) or a Serial Query (type 1). */
+static uint8_t *put_serial(uint8_t *p, unsigned type, uint16_t session, uint32_t serial)
+{
+    return put32(put_header(p, type, session, 12), serial);
+}
+
+/* Code 0, the Serial Query enclosed, no text. */
+static uint8_t *put_error(uint8_t *p, uint16_t session, uint32_t serial)
+{
+    return put32(put_serial(put32(put_header(p, 10, 0, 28), 12), 1, session, serial), 0);
+}
+
+/* An origin or a router key. */
+static uint8_t *put_payload(uint8_t *p, const struct field *f, int announce)
+{
+    const uint8_t *b = f->key;
+    if (f->kind == 2)
+        return put_run(put_header(p, 9, announce ? 0x100 : 0, 8 + f->key_length), b, f->key_length);
+    size_t address = b[0] == 4 ? 4 : 16;
+    p = put_header(p, b[0], 0, 16 + address);
+    *p++ = (uint8_t)announce;
+    *p++ = b[17];
+    *p++ = b[18];
+    *p++ = 0;
+    return put_run(put_run(p, b + 1, address), b + 19, 4);
+}
+
+struct messages {
+    size_t length;
+    uint64_t announced, withdrawn, aspas;
+};
+
+/* What a good delta or snapshot says. */
+static struct messages messages_into(uint8_t *to, enum form form, const uint8_t *from, size_t n, uint16_t session,
+                                     uint32_t serial, taplevung_timing_values times)
+{
+    struct messages m = {0, 0, 0, 0};
+    uint8_t *p = put_header(to, 3, session, 8);
+    for (size_t at = 0; at < n;) {
+        struct field f = field_at(form, from + at);
+        at += f.length;
+        if (f.kind == 3) {
+            m.aspas++;
+            continue;
+        }
+        *(f.action == 2 ? &m.withdrawn : &m.announced) += 1;
+        p = put_payload(p, &f, f.action != 2);
+    }
+    taplevung_timing_values t = timing_of(times.refresh, times.retry, times.expire);
+    p = put32(put_header(p, 7, session, 24), serial);
+    p = put32(put32(put32(p, t.refresh), t.retry), t.expire);
+    m.length = (size_t)(p - to);
+    return m;
 }
 
 #endif

@@ -47,10 +47,13 @@ enum {
     TAPLEVUNG_NO_CHANGE = 2, /* construct: the snapshots are equal, nothing was written */
     TAPLEVUNG_FIRST = 1,     /* update: the history's first snapshot, the serial stays */
     TAPLEVUNG_UNCHANGED = 2, /* update: the snapshot is the one that is held already */
-    TAPLEVUNG_CHANGED = 3    /* update: a delta was added, the serial is one higher */
+    TAPLEVUNG_CHANGED = 3,   /* update: a delta was added, the serial is one higher */
+    TAPLEVUNG_DATA = 1,      /* messages: what was asked for was written */
+    TAPLEVUNG_CACHE_RESET = 2, /* messages: a Cache Reset was written, the query is not served */
+    TAPLEVUNG_ERROR_REPORT = 3 /* messages: an Error Report was written, the session is another */
 };
 
-/* What `number` of a refused answer says. */
+/* What `number` of a refused answer says, and of one that sends a router away. */
 enum {
     TAPLEVUNG_BAD_FIELD = 1,     /* a field is cut short, has an unknown tag or a bad body */
     TAPLEVUNG_OUT_OF_ORDER = 2,  /* a field does not stand above the one before it */
@@ -95,7 +98,7 @@ typedef struct {
 /* What a call says. What each number holds is told at each function. */
 typedef struct {
     uint32_t kind;           /* refused, or what was done */
-    uint32_t number;         /* a refusal's number, else 0 */
+    uint32_t number;         /* a refusal's number; 6 with a Cache Reset, 5 with an Error Report; else 0 */
     uint32_t argument;       /* which argument is at fault, 1 or 2, for nos. 1, 2, 3, 10, 12; else 0 */
     taplevung_serial serial;
     uint64_t offset;         /* where in that argument the field starts, for nos. 1, 2, 3, 12; else 0 */
@@ -141,6 +144,14 @@ typedef struct {
 typedef struct {
     uint32_t refresh, retry, expire;
 } taplevung_timing_values;
+
+/* The answer of the calls that write router messages. */
+typedef struct {
+    taplevung_answer answer;
+    taplevung_session session;    /* the one that the messages name */
+    uint64_t router_keys_skipped; /* items that there is no message for */
+    uint64_t aspas_skipped;
+} taplevung_sent;
 
 /*
  * Writes the difference between two snapshots to the output.
@@ -263,6 +274,47 @@ taplevung_notice taplevung_notify(taplevung_state state);
 
 /* Says whether the history has a snapshot yet. Never refuses. */
 bool taplevung_ready(taplevung_state state);
+
+/*
+ * Writes the messages of RFC 8210, version 1, that answer the Serial Query of a router at
+ * `serial` of `session`.
+ *
+ * TAPLEVUNG_DATA: a Cache Response, an IPv4 Prefix, IPv6 Prefix or Router Key message for
+ * each item of the delta that taplevung_query writes, in its order, and an End of Data
+ * with the times that taplevung_timing makes of `times`. `session` and serial are those
+ * that the messages name; length is that of all of them, announced and withdrawn count
+ * the messages between the two; the RFC has none for ASPAs, which are skipped and counted.
+ * TAPLEVUNG_CACHE_RESET: that message alone was written, where taplevung_query refuses
+ * with 6. TAPLEVUNG_ERROR_REPORT: one of code 0 that encloses the Serial Query, without
+ * text, where it refuses with 5. Of both only number and length are not 0.
+ * Refusals: 7, then 4, whatever it is that does not fit.
+ */
+taplevung_sent taplevung_query_messages(
+    taplevung_state state, taplevung_session session, taplevung_serial serial,
+    taplevung_timing_values times,
+    const uint8_t *snapshots, size_t snapshots_length,
+    const uint8_t *deltas, size_t deltas_length,
+    uint8_t *out, size_t out_length);
+
+/*
+ * Writes the messages that answer a Reset Query: as above, with the held snapshot's items
+ * announced. Before the first snapshot there is none between Cache Response and End of
+ * Data; a server that would rather say that it has no data asks taplevung_ready first.
+ *
+ * TAPLEVUNG_DATA: as above; withdrawn is 0. Refusals: 7, then 4.
+ */
+taplevung_sent taplevung_full_messages(
+    taplevung_state state, taplevung_timing_values times,
+    const uint8_t *snapshots, size_t snapshots_length,
+    const uint8_t *deltas, size_t deltas_length,
+    uint8_t *out, size_t out_length);
+
+/*
+ * Writes the Serial Notify of what taplevung_notify says.
+ *
+ * TAPLEVUNG_DATA: `session` and serial are those that it names; length is 12. Refusals: 4.
+ */
+taplevung_sent taplevung_notify_message(taplevung_state state, uint8_t *out, size_t out_length);
 
 /*
  * Brings each interval into the range of RFC 8210: refresh 1 to 86,400, retry 1 to 7,200,

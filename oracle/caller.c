@@ -18,10 +18,13 @@ extern void *memcpy(void *, const void *, size_t);
 extern void *memset(void *, int, size_t);
 enum { PROT_NONE_ = 0, PROT_READ_WRITE_ = 3, MAP_PRIVATE_ANONYMOUS_ = 0x22 };
 
-enum entry { CONSTRUCT, MERGE, APPLY, CREATE, UPDATE, QUERY, QUERY_ALL, FULL, NOTIFY, READY, TIMING };
+enum entry {
+    CONSTRUCT, MERGE, APPLY, CREATE, UPDATE, QUERY, QUERY_ALL, FULL, NOTIFY, READY, TIMING,
+    QUERY_MESSAGES, FULL_MESSAGES, NOTIFY_MESSAGE
+};
 
 struct request {
-    uint64_t entry, numbers[3];
+    uint64_t entry, numbers[5];
     uint64_t lengths[3]; /* of the slices, and how much of each is sent */
     uint64_t sent[3];
     uint64_t list; /* the length of the queries, which come behind the slices */
@@ -102,10 +105,15 @@ static int give(const void *from, size_t n)
 static void call(const struct request *q, uint8_t *const s[3], struct reply *r)
 {
     const size_t *n = q->lengths;
-    taplevung_serial serial = {(uint32_t)q->numbers[q->entry == QUERY]}, start = {(uint32_t)q->numbers[2]};
-    taplevung_session session = {(uint16_t)q->numbers[0]};
+    const uint64_t *given = q->numbers;
+    int asked = q->entry == QUERY || q->entry == QUERY_MESSAGES;
+    taplevung_serial serial = {(uint32_t)given[asked]}, start = {(uint32_t)given[2]};
+    taplevung_session session = {(uint16_t)given[0]};
+    const uint64_t *last = given + (asked ? 2 : 0);
+    taplevung_timing_values times = {(uint32_t)last[0], (uint32_t)last[1], (uint32_t)last[2]};
     taplevung_made made;
     taplevung_told told;
+    taplevung_sent sent;
     switch (q->entry) {
     case CONSTRUCT:
         r->answer = taplevung_construct(s[0], n[0], s[1], n[1], serial, s[2], n[2]);
@@ -119,7 +127,7 @@ static void call(const struct request *q, uint8_t *const s[3], struct reply *r)
     case CREATE:
     case UPDATE:
         made = q->entry == CREATE
-                   ? taplevung_create(q->numbers[0], (uint32_t)q->numbers[1], start, s[0], n[0], s[1], n[1])
+                   ? taplevung_create(given[0], (uint32_t)given[1], start, s[0], n[0], s[1], n[1])
                    : taplevung_update(q->state, s[0], n[0], s[1], n[1], s[2], n[2]);
         r->answer = made.answer;
         r->state = made.state;
@@ -149,13 +157,25 @@ static void call(const struct request *q, uint8_t *const s[3], struct reply *r)
         r->numbers[0] = taplevung_ready(q->state);
         break;
     case TIMING: {
-        taplevung_timing_values t = taplevung_timing(
-            (uint32_t)q->numbers[0], (uint32_t)q->numbers[1], (uint32_t)q->numbers[2]);
+        taplevung_timing_values t = taplevung_timing(times.refresh, times.retry, times.expire);
         r->numbers[0] = t.refresh;
         r->numbers[1] = t.retry;
         r->numbers[2] = t.expire;
         break;
     }
+    case QUERY_MESSAGES:
+    case FULL_MESSAGES:
+    case NOTIFY_MESSAGE:
+        sent = q->entry == QUERY_MESSAGES
+                   ? taplevung_query_messages(q->state, session, serial, times, s[0], n[0], s[1], n[1], s[2], n[2])
+               : q->entry == FULL_MESSAGES
+                   ? taplevung_full_messages(q->state, times, s[0], n[0], s[1], n[1], s[2], n[2])
+                   : taplevung_notify_message(q->state, s[2], n[2]);
+        r->answer = sent.answer;
+        r->numbers[0] = sent.session.value;
+        r->numbers[1] = sent.router_keys_skipped;
+        r->numbers[2] = sent.aspas_skipped;
+        break;
     }
 }
 

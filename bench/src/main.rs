@@ -3,6 +3,7 @@
 //! - `bench race FOLDER [ROUNDS]` times all in one run, interleaved, and takes the best of each. It prints tables
 //!   of ratios and writes them to FOLDER/goals.md and FOLDER/tables.md, and a plot to FOLDER/growth.svg. Times
 //!   themselves say more of a machine than of the library, so there are none. `bench/run` starts this.
+//! - `bench messages FOLDER [ROUNDS]` measures the router messages alone, and writes FOLDER/messages.md.
 //! - `bench appliance ITEMS RUNS` prints a table of 384 queries in one call.
 //! - `bench names` prints what can be counted, and `bench count ENTRY KIND WHO TIMES` runs one of those so many
 //!   times and prints how many fields its inputs have. `bench/count` starts these.
@@ -10,6 +11,7 @@ mod appliance;
 mod data;
 mod entries;
 mod goals;
+mod messages;
 mod plain;
 mod plot;
 mod race;
@@ -28,6 +30,10 @@ fn main() {
     match words.iter().map(String::as_str).collect::<Vec<_>>()[..] {
         ["race", folder] => race_all(Path::new(folder), 15),
         ["race", folder, rounds] => race_all(Path::new(folder), rounds.parse().expect("a number of rounds")),
+        ["messages", folder] => messages(Path::new(folder), 15),
+        ["messages", folder, rounds] => {
+            messages(Path::new(folder), rounds.parse().expect("a number of rounds"))
+        }
         ["appliance", items, runs] => {
             let number = |word: &str| word.parse().expect("a number");
             print!("{}", appliance::run(number(items), number(runs)));
@@ -37,7 +43,7 @@ fn main() {
             count(entry, kind, who, times.parse().expect("a number of times"))
         }
         _ => {
-            eprintln!("usage: bench race FOLDER [ROUNDS] | appliance ITEMS RUNS | names | count ENTRY KIND WHO TIMES");
+            eprintln!("usage: bench race FOLDER [ROUNDS] | messages FOLDER [ROUNDS] | appliance ITEMS RUNS | names | count ENTRY KIND WHO TIMES");
             std::process::exit(2);
         }
     }
@@ -66,6 +72,12 @@ fn race_all(folder: &Path, rounds: u32) {
     for (name, text) in [("goals.md", goals), ("tables.md", tables), ("growth.svg", plot::plot(&panels))] {
         std::fs::write(folder.join(name), text).expect("the folder can be written");
     }
+}
+
+fn messages(folder: &Path, rounds: u32) {
+    let tables = messages::tables(rounds);
+    print!("{tables}");
+    std::fs::write(folder.join("messages.md"), tables).expect("the folder can be written");
 }
 
 /// Who is counted.

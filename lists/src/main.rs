@@ -1,6 +1,7 @@
 //! Makes the calls of the lists on the proved library and compares each answer with the recorded one.
 //!
 //! usage: lists FOLDER, where each folder within that has a file `answers` has the lists `cases` and `runs`
+//!        lists FOLDER NAME prints the library's answers to the lists of FOLDER/NAME
 //!
 //! How lines are read, and the words of the answers, are in `oracle::script`; here the calls are made.
 use std::path::{Path, PathBuf};
@@ -10,26 +11,37 @@ use std::{env, fs};
 use oracle::call::{Answer, Call, Entry, Outcome, Reply, State};
 use oracle::model::{Form, Refused};
 use oracle::script::play;
-use taplevung::{raw, Serial, Session};
+use taplevung::{raw, Serial, Session, Timing};
 
 fn main() -> ExitCode {
     let Some(folder) = env::args_os().nth(1).map(PathBuf::from) else {
-        eprintln!("usage: lists FOLDER");
+        eprintln!("usage: lists FOLDER [NAME]");
         return ExitCode::from(2);
     };
+    if let Some(name) = env::args_os().nth(2) {
+        print!("{}", answers(&folder.join(name)));
+        return ExitCode::SUCCESS;
+    }
     let entries = fs::read_dir(&folder).expect("a folder of lists").map(|e| e.expect("an entry").path());
     let mut found: Vec<_> = entries.filter(|path| path.join("answers").is_file()).collect();
     found.sort();
     let (mut passed, mut failed) = (0, 0);
     for lists in found {
-        let read = |name: &str| fs::read_to_string(lists.join(name)).expect("a file of the lists");
-        let said = ["cases", "runs"].map(|list| play(&read(list), check, run)).concat();
-        let (same, other) = compare(&lists, &said, &read("answers"));
+        let (same, other) = compare(&lists, &answers(&lists), &read(&lists, "answers"));
         passed += same;
         failed += other;
     }
     println!("{passed} passed, {failed} failed");
     ExitCode::from(u8::from(failed > 0 || passed == 0))
+}
+
+fn read(lists: &Path, name: &str) -> String {
+    fs::read_to_string(lists.join(name)).expect("a file of the lists")
+}
+
+/// What the library answers to two lists.
+fn answers(lists: &Path) -> String {
+    ["cases", "runs"].map(|list| play(&read(lists, list), check, run)).concat()
 }
 
 /// How many lines are as recorded, and how many are not; each of these is printed.
@@ -83,7 +95,8 @@ fn run(call: &Call) -> Outcome {
             i + 1
         );
         left.bytes[i] = inner(room).to_vec();
-        let stays = left.answer.number != 0 || !written(call, i);
+        let refused = left.answer.kind == 0 && left.answer.number != 0;
+        let stays = refused || !written(call, i);
         assert!(!stays || left.bytes[i] == *before, "slice {} changed:\n{call}", i + 1);
     }
     left
@@ -106,7 +119,7 @@ fn written(call: &Call, i: usize) -> bool {
 /// The call itself, one arm for each.
 fn make(call: &Call, [a, b, c]: [&mut [u8]; 3], left: &mut Outcome) {
     let state = given(&call.state);
-    let [first, second, third] = call.numbers.map(|n| n as u32);
+    let [first, second, third, ..] = call.numbers.map(|n| n as u32);
     match call.entry {
         Entry::Construct => left.answer = answer(raw::construct(a, b, Serial(first), c)),
         Entry::Merge => left.answer = answer(raw::merge(a, b, Serial(first), c)),
@@ -126,6 +139,12 @@ fn make(call: &Call, [a, b, c]: [&mut [u8]; 3], left: &mut Outcome) {
             let times = raw::timing(first, second, third);
             left.numbers = [times.refresh, times.retry, times.expire].map(u64::from);
         }
+        Entry::QueryMessages => {
+            let (session, serial) = (Session(first as u16), Serial(second));
+            sent(raw::query_messages(state, session, serial, times(call, 2), a, b, c), left);
+        }
+        Entry::FullMessages => sent(raw::full_messages(state, times(call, 0), a, b, c), left),
+        Entry::NotifyMessage => sent(raw::notify_message(state, c), left),
     }
 }
 
@@ -137,6 +156,17 @@ fn made(made: raw::Made, left: &mut Outcome) {
 fn told(told: raw::Told, left: &mut Outcome) {
     left.answer = answer(told.answer);
     left.numbers[0] = told.session.0.into();
+}
+
+fn sent(sent: raw::Sent, left: &mut Outcome) {
+    left.answer = answer(sent.answer);
+    left.numbers = [sent.session.0.into(), sent.router_keys_skipped, sent.aspas_skipped];
+}
+
+/// The times that stand at `at` among the numbers.
+fn times(call: &Call, at: usize) -> Timing {
+    let [refresh, retry, expire] = [0, 1, 2].map(|i| call.numbers[at + i] as u32);
+    Timing { refresh, retry, expire }
 }
 
 fn replied(all: &raw::Replies, left: &mut Outcome) {

@@ -16,6 +16,9 @@ pub enum Entry {
     Notify,
     Ready,
     Timing,
+    QueryMessages,
+    FullMessages,
+    NotifyMessage,
 }
 
 /// `taplevung_state`.
@@ -71,7 +74,7 @@ pub struct Reply {
 pub struct Call {
     pub entry: Entry,
     pub state: State,
-    pub numbers: [u64; 3],
+    pub numbers: [u64; 5],
     pub bytes: [Vec<u8>; 3],
     /// The queries of `QueryAll`.
     pub list: Vec<u8>,
@@ -82,7 +85,7 @@ pub struct Call {
 pub struct Outcome {
     pub answer: Answer,
     pub state: State,
-    /// The session; or whether ready; or the three times.
+    /// The session, and of messages the router keys and the ASPAs skipped; or whether ready; or the three times.
     pub numbers: [u64; 3],
     pub bytes: [Vec<u8>; 3],
     /// Of `QueryAll`, one for each query.
@@ -90,24 +93,26 @@ pub struct Outcome {
 }
 
 impl Call {
-    fn new(entry: Entry, state: State, numbers: [u64; 3], bytes: [Vec<u8>; 3]) -> Self {
+    fn new<const N: usize>(entry: Entry, state: State, given: [u64; N], bytes: [Vec<u8>; 3]) -> Self {
+        let mut numbers = [0; 5];
+        numbers[..N].copy_from_slice(&given);
         Call { entry, state, numbers, bytes, list: vec![] }
     }
     pub fn construct(old: Vec<u8>, new: Vec<u8>, serial: u32, out: Vec<u8>) -> Self {
-        Self::new(Entry::Construct, State::ZERO, [serial.into(), 0, 0], [old, new, out])
+        Self::new(Entry::Construct, State::ZERO, [serial.into()], [old, new, out])
     }
     pub fn merge(earlier: Vec<u8>, later: Vec<u8>, serial: u32, out: Vec<u8>) -> Self {
-        Self::new(Entry::Merge, State::ZERO, [serial.into(), 0, 0], [earlier, later, out])
+        Self::new(Entry::Merge, State::ZERO, [serial.into()], [earlier, later, out])
     }
     pub fn apply(snapshot: Vec<u8>, delta: Vec<u8>, out: Vec<u8>) -> Self {
-        Self::new(Entry::Apply, State::ZERO, [0; 3], [snapshot, delta, out])
+        Self::new(Entry::Apply, State::ZERO, [], [snapshot, delta, out])
     }
     pub fn create(session: u64, keep: u32, start: u32, snapshots: Vec<u8>, deltas: Vec<u8>) -> Self {
         let numbers = [session, keep.into(), start.into()];
         Self::new(Entry::Create, State::ZERO, numbers, [snapshots, deltas, vec![]])
     }
     pub fn update(state: State, new: Vec<u8>, snapshots: Vec<u8>, deltas: Vec<u8>) -> Self {
-        Self::new(Entry::Update, state, [0; 3], [new, snapshots, deltas])
+        Self::new(Entry::Update, state, [], [new, snapshots, deltas])
     }
     pub fn query(
         state: State,
@@ -117,19 +122,19 @@ impl Call {
         deltas: Vec<u8>,
         out: Vec<u8>,
     ) -> Self {
-        Self::new(Entry::Query, state, [session.into(), serial.into(), 0], [snapshots, deltas, out])
+        Self::new(Entry::Query, state, [session.into(), serial.into()], [snapshots, deltas, out])
     }
     pub fn query_all(state: State, snapshots: Vec<u8>, deltas: Vec<u8>, list: Vec<u8>, out: Vec<u8>) -> Self {
-        Call { list, ..Self::new(Entry::QueryAll, state, [0; 3], [snapshots, deltas, out]) }
+        Call { list, ..Self::new(Entry::QueryAll, state, [], [snapshots, deltas, out]) }
     }
     pub fn full(state: State, snapshots: Vec<u8>, deltas: Vec<u8>) -> Self {
-        Self::new(Entry::Full, state, [0; 3], [snapshots, deltas, vec![]])
+        Self::new(Entry::Full, state, [], [snapshots, deltas, vec![]])
     }
     pub fn notify(state: State) -> Self {
-        Self::new(Entry::Notify, state, [0; 3], Default::default())
+        Self::new(Entry::Notify, state, [], Default::default())
     }
     pub fn ready(state: State) -> Self {
-        Self::new(Entry::Ready, state, [0; 3], Default::default())
+        Self::new(Entry::Ready, state, [], Default::default())
     }
     pub fn timing(refresh: u32, retry: u32, expire: u32) -> Self {
         Self::new(
@@ -139,11 +144,26 @@ impl Call {
             Default::default(),
         )
     }
+    /// The messages that answer what [`Call::query`] asks, with these times: refresh, retry, expire.
+    pub fn query_messages(query: Call, times: [u32; 3]) -> Self {
+        let [session, serial, ..] = query.numbers;
+        let [refresh, retry, expire] = times.map(u64::from);
+        Self::new(Entry::QueryMessages, query.state, [session, serial, refresh, retry, expire], query.bytes)
+    }
+    /// Those that answer what [`Call::full`] asks.
+    pub fn full_messages(full: Call, times: [u32; 3], out: Vec<u8>) -> Self {
+        let [snapshots, deltas, _] = full.bytes;
+        Self::new(Entry::FullMessages, full.state, times.map(u64::from), [snapshots, deltas, out])
+    }
+    pub fn notify_message(state: State, out: Vec<u8>) -> Self {
+        Self::new(Entry::NotifyMessage, state, [], [vec![], vec![], out])
+    }
 
     /// Which slices are the snapshot store and the delta store.
     pub fn stores(&self) -> Option<(usize, usize)> {
         match self.entry {
             Entry::Create | Entry::Query | Entry::QueryAll | Entry::Full => Some((0, 1)),
+            Entry::QueryMessages | Entry::FullMessages => Some((0, 1)),
             Entry::Update => Some((1, 2)),
             _ => None,
         }
@@ -153,6 +173,7 @@ impl Call {
     pub fn out(&self) -> Option<usize> {
         match self.entry {
             Entry::Construct | Entry::Merge | Entry::Apply | Entry::Query | Entry::QueryAll => Some(2),
+            Entry::QueryMessages | Entry::FullMessages | Entry::NotifyMessage => Some(2),
             _ => None,
         }
     }
@@ -215,6 +236,9 @@ impl Outcome {
     }
 }
 
+/// Of a long slice the start alone.
 fn hex(bytes: &[u8]) -> String {
-    bytes.iter().map(|b| format!("{b:02x}")).collect()
+    let shown = if bytes.len() > 1 << 20 { &bytes[..64] } else { bytes };
+    let more = if shown.len() < bytes.len() { ".." } else { "" };
+    shown.iter().map(|b| format!("{b:02x}")).collect::<String>() + more
 }

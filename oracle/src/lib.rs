@@ -1,6 +1,6 @@
 //! The proved library against document 01 and against the Rust that it ports.
 //!
-//! - [`model`] is document 01, written from its words.
+//! - [`model`] is document 01, written from its words, and [`message`] the router messages of RFC 8210.
 //! - [`rust`] is Routinator's own code, unchanged, over stand-ins for the crates it uses. It is there
 //!   only where its source is (see `build.rs`).
 //! - [`port`] is the library, in a process of its own.
@@ -11,6 +11,7 @@ pub mod call;
 pub mod damage;
 pub mod field;
 pub mod make;
+pub mod message;
 pub mod model;
 pub mod port;
 pub mod rng;

@@ -11,7 +11,8 @@ use std::time::{Duration, Instant};
 use oracle::call::{Answer, Call, Entry, Outcome, State};
 use oracle::damage::{damage, ill_form, DAMAGES};
 use oracle::field::put;
-use oracle::make::{output, room, serial, Universe, World};
+use oracle::make::{output, room, serial, times, Universe, World};
+use oracle::message::Router;
 use oracle::model::{self, Change, Delta, Form, Snapshot, DELTA_LIMIT, SNAPSHOT_LIMIT};
 use oracle::port::Port;
 use oracle::rng::Rng;
@@ -44,6 +45,9 @@ fn main() -> ExitCode {
     }
 }
 
+/// The snapshot that most recently carried a serial.
+type Carried = BTreeMap<u32, Snapshot>;
+
 /// A difference, in words; or something that was not met often enough.
 type Checked<T = ()> = Result<T, String>;
 
@@ -68,6 +72,8 @@ struct Run {
     reached: u64,
     /// Times that the Rust left an expire that is not larger than refresh and retry, a known difference (E5).
     raised: u64,
+    /// Messages that a router read, and then held what the snapshot says.
+    read: u64,
 }
 
 impl Run {
@@ -85,6 +91,7 @@ impl Run {
             known: 0,
             reached: 0,
             raised: 0,
+            read: 0,
         }
     }
 
@@ -93,6 +100,7 @@ impl Run {
     }
 
     fn all(&mut self, cases: u64) -> Checked {
+        self.every_room()?;
         self.limits()?;
         let (start, mut told) = (Instant::now(), Instant::now());
         while self.calls() < cases {
@@ -105,7 +113,8 @@ impl Run {
                 530..=569 => self.chain(&mut rng)?,
                 570..=571 => self.history(&mut rng)?,
                 572..=859 => self.damaged(&mut rng)?,
-                860..=979 => self.ill_formed(&mut rng)?,
+                860..=959 => self.ill_formed(&mut rng)?,
+                960..=983 => self.messages(&mut rng)?,
                 _ => self.numbers(&mut rng)?,
             }
             if told.elapsed() > Duration::from_secs(10) {
@@ -122,13 +131,14 @@ impl Run {
     fn summary(&self) -> String {
         let kinds: Vec<String> = self.kinds.iter().map(|(k, n)| format!("{k} {n}")).collect();
         format!(
-            "all equal: {} calls ({}), {} of them with the Rust too, K6 met {} times, E2 {} times, E5 {} times, seed {}",
+            "all equal: {} calls ({}), {} of them with the Rust too, K6 met {} times, E2 {} times, E5 {} times, {} answers read by a router, seed {}",
             self.calls(),
             kinds.join(", "),
             self.rust,
             self.known,
             self.reached,
             self.raised,
+            self.read,
             self.seed
         )
     }
@@ -144,7 +154,7 @@ impl Run {
             return Err(self.explain(call));
         }
         *self.kinds.entry(self.kind).or_default() += 1;
-        if want.answer.kind == 0 && want.answer.number != 0 {
+        if want.answer.number != 0 {
             *self.refusals.entry((call.entry, want.answer.number, want.answer.argument)).or_default() += 1;
         }
         Ok(want)
@@ -290,6 +300,7 @@ impl Run {
         let created = self.compare(&Call::create(session, keep, start, snapshots.clone(), deltas.clone()))?;
         let mut world = World { state: created.state, snapshots, deltas };
         let rust = RustHistory::new(keep, start);
+        let mut carried = Carried::from([(start, Snapshot::new())]);
         let steps = if rng.one_in(10) { 90 } else { rng.below(12) };
         for _ in 0..steps {
             let next = bytes(&universe.next(rng, &world.now()));
@@ -303,6 +314,8 @@ impl Run {
             world = World { state: outcome.state, snapshots, deltas };
             self.with_rust(rust.update(&next, outcome.answer.kind), &call)?;
             self.questions(rng, &world, &rust)?;
+            carried.insert(world.state.newest, world.now());
+            self.routers(rng, &world, &carried, &rust)?;
             if rng.one_in(4) {
                 self.appliance(rng, &world)?;
             }
@@ -380,6 +393,86 @@ impl Run {
         Ok(())
     }
 
+    /// Routers read the messages: one that asks for everything, and some that hold the snapshot which most recently
+    /// carried the serial that they ask for. Each ends with what the current one says.
+    fn routers(&mut self, rng: &mut Rng, world: &World, carried: &Carried, rust: &RustHistory) -> Checked {
+        self.kind = "messages";
+        let State { session, newest, n, .. } = world.state;
+        let (session, asked) = (session as u16, times(rng));
+        let (refresh, retry, expire) = model::timing(asked[0], asked[1], asked[2]);
+        let held = Router::holding(&world.now()).held;
+        let now = Router { held, session, serial: newest, times: [refresh, retry, expire] };
+        self.reads(&room(rng, world.full_messages(asked)), &Snapshot::new(), &now, None)?;
+        for d in [0, 1, rng.below(n as usize + 2) as u32, n, n + 1] {
+            let serial = newest.wrapping_sub(d);
+            let held = carried.get(&serial).cloned().unwrap_or_default();
+            let call = room(rng, world.query_messages(session, serial, asked));
+            self.reads(&call, &held, &now, rust.shown(serial))?;
+        }
+        self.kind = "history";
+        Ok(())
+    }
+
+    /// A router that holds a snapshot reads what a call wrote, if it wrote data, and is then `now`. What it reads is what the
+    /// Rust shows to a server, where that serves.
+    fn reads(&mut self, call: &Call, held: &Snapshot, now: &Router, shown: Option<Shown>) -> Checked {
+        let outcome = self.compare(call)?;
+        if outcome.answer.kind != 1 {
+            return Ok(());
+        }
+        let mut router = Router::holding(held);
+        let read = router.take(&answered(outcome));
+        if read.is_err() || router != *now {
+            return Err(format!("DIFFERENCE (messages): {read:?}, and the router is {router:?}\n{call}"));
+        }
+        self.read += 1;
+        self.with_rust(shown.map(|shown| read == Ok(shown)), call)
+    }
+
+    /// The messages of any good history, at any session and room.
+    fn messages(&mut self, rng: &mut Rng) -> Checked {
+        self.kind = "messages";
+        let universe = Universe::new(rng);
+        let world = World::new(rng, &universe);
+        let session = if rng.one_in(4) { rng.next() } else { world.state.session } as u16;
+        let behind = rng.below(world.state.n as usize + 3) as u32;
+        let times = times(rng);
+        let query = world.query_messages(session, world.state.newest.wrapping_sub(behind), times);
+        for call in [query, world.full_messages(times), Call::notify_message(world.state, vec![])] {
+            self.compare(&room(rng, call))?;
+        }
+        Ok(())
+    }
+
+    /// The messages of one history with each room from none to more than enough.
+    fn every_room(&mut self) -> Checked {
+        self.kind = "messages";
+        let universe = Universe::fixed();
+        let mut rng = Rng::new(self.seed, 0);
+        let mut world = World::new(&mut rng, &universe);
+        while world.state.n < 2 {
+            world = World::new(&mut rng, &universe);
+        }
+        let (session, newest) = (world.state.session as u16, world.state.newest);
+        for call in [
+            world.query_messages(session, newest.wrapping_sub(2), [3600, 600, 7200]),
+            world.query_messages(session, newest.wrapping_add(1), [3600, 600, 7200]),
+            world.query_messages(!session, newest, [3600, 600, 7200]),
+            world.full_messages([3600, 600, 7200]),
+            Call::notify_message(world.state, vec![]),
+        ] {
+            for room in 0.. {
+                let mut call = call.clone();
+                call.bytes[2] = vec![0xEE; room];
+                let answer = self.compare(&call)?.answer;
+                if answer.kind != 0 && answer.length as usize + 2 == room {
+                    break;
+                }
+            }
+        }
+        Ok(())
+    }
+
     /// Lists of queries, most of them good, with outputs of every size up to what is needed and a little more.
     fn appliance(&mut self, rng: &mut Rng, world: &World) -> Checked {
         let list = queries(rng, world);
@@ -450,8 +543,12 @@ impl Run {
         let new = if rng.one_in(3) { damage(rng, Form::Snapshot, &new).1 } else { new };
         let mut query = world.query(session, state.newest.wrapping_sub(behind));
         query.bytes[2] = vec![0xEE; [0, 30, 5000][rng.below(3)]];
+        let messages = match rng.below(2) {
+            0 => Call::query_messages(query.clone(), times(rng)),
+            _ => Call::full_messages(world.full(), times(rng), query.bytes[2].clone()),
+        };
         let all = world.query_all(queries(rng, &world), vec![0xEE; rng.below(300)]);
-        for call in [world.update(new), query, all, world.full()] {
+        for call in [world.update(new), query, all, world.full(), messages] {
             if self.compare(&call)?.answer.number == 7 {
                 *self.damages.entry(name).or_default() += 1;
             }
@@ -482,6 +579,7 @@ impl Run {
         };
         self.compare(&Call::notify(state))?;
         self.compare(&Call::ready(state))?;
+        self.compare(&Call::notify_message(state, vec![7; 10 + rng.below(4)]))?;
         let near = |rng: &mut Rng| {
             let edge = *rng.pick(&[0, 1, 600, 7_200, 86_400, 172_800, u32::MAX]);
             edge.wrapping_add(rng.below(3) as u32).wrapping_sub(1)
@@ -539,6 +637,15 @@ impl Run {
         let last = self.compare(&Call::update(first.state, new, snapshots, deltas))?;
         let [_, snapshots, deltas] = last.bytes;
         self.compare(&Call::query(last.state, 9, 0, snapshots, deltas, vec![0; made.len()]))?;
+
+        // as many origins as a snapshot can hold: their messages are longer than it
+        let (count, none) = (snap / 26, vec![0; 0]);
+        let origins: Vec<u8> = (0..count as u32).flat_map(origin6).collect();
+        let length = origins.len() as u32;
+        let full = Call::full(State { active: 1, snapshot: length, ..inactive }, origins, none);
+        for room in [32 * count + 32, 32 * count + 31] {
+            self.compare(&Call::full_messages(full.clone(), [0, 0, 0], vec![0; room]))?;
+        }
         Ok(())
     }
 
@@ -577,6 +684,13 @@ impl Run {
             (QueryAll, 7, 0, 500),
             (QueryAll, 11, 0, 100),
             (Full, 7, 0, 500),
+            (QueryMessages, 4, 0, 500),
+            (QueryMessages, 5, 0, 200),
+            (QueryMessages, 6, 0, 500),
+            (QueryMessages, 7, 0, 500),
+            (FullMessages, 4, 0, 500),
+            (FullMessages, 7, 0, 500),
+            (NotifyMessage, 4, 0, 500),
             // from the fixed list alone
             (Construct, 10, 1, 1),
             (Construct, 10, 2, 1),
@@ -608,6 +722,7 @@ impl Run {
         for name in DAMAGES.iter().map(|(name, _)| name).chain(ILL) {
             enough(format!("\"{name}\""), self.damages.get(name), 100)?;
         }
+        enough("a router that reads messages".into(), Some(&self.read), 5000)?;
         if cfg!(routinator) && [self.known, self.reached, self.raised].contains(&0) {
             return Err("too few cases: K6, E2 or E5 was not met".into());
         }
@@ -648,6 +763,13 @@ fn answered(outcome: Outcome) -> Vec<u8> {
     out
 }
 
+/// The field of an IPv6 origin of this AS number.
+fn origin6(asn: u32) -> Vec<u8> {
+    let mut out = vec![];
+    put(&mut out, 1, &[&[6, 0x20, 1, 0x0d, 0xb8], &[0; 12], &[32, 48], &asn.to_be_bytes()]);
+    out
+}
+
 /// ASPA fields of one tag that are `length` bytes together, with providers from `from` on, above all customers.
 fn longest(tag: u8, length: usize, from: u32) -> Vec<u8> {
     let mut out = Vec::with_capacity(length);
@@ -673,6 +795,9 @@ fn served(answer: &Answer, out: &[u8]) -> oracle::rust::Served {
     }
 }
 
+/// Items announced (true) and withdrawn, in order.
+type Shown = Vec<(bool, model::Key)>;
+
 /// Routinator's history beside the library's. Each comparison says whether they agree, and nothing where
 /// the Rust is not there.
 struct RustHistory {
@@ -694,6 +819,12 @@ impl RustHistory {
         Some(self.history.full() == (serial, held.to_vec(), notified, ready))
     }
 
+    /// The origins and router keys that a server is shown for a router at `asked`.
+    fn shown(&self, asked: u32) -> Option<Shown> {
+        let items = self.history.shown_since(asked)?.into_iter().filter(|(kind, ..)| *kind != 3);
+        Some(items.map(|(kind, announce, body)| (announce, [&[kind][..], &body].concat())).collect())
+    }
+
     /// On a router at `asked`, which was served `said` or nothing.
     fn since(&self, asked: u32, said: Option<(&Answer, &[u8])>) -> Option<bool> {
         let want = said.map(|(answer, out)| served(answer, out));
@@ -711,6 +842,9 @@ impl RustHistory {
         None
     }
     fn full(&self, _: u32, _: &[u8], _: u32, _: bool) -> Option<bool> {
+        None
+    }
+    fn shown(&self, _: u32) -> Option<Shown> {
         None
     }
     fn since(&self, _: u32, _: Option<(&Answer, &[u8])>) -> Option<bool> {

@@ -228,6 +228,15 @@ pub fn serial(rng: &mut Rng) -> u32 {
     }
 }
 
+/// Refresh, retry and expire: at their bounds and one off, or as one would set them.
+pub fn times(rng: &mut Rng) -> [u32; 3] {
+    const EDGES: [u32; 7] = [0, 1, 600, 7_200, 86_400, 172_800, u32::MAX];
+    match rng.below(3) {
+        0 => [3600, 600, 7200],
+        _ => [(); 3].map(|_| rng.pick(&EDGES).wrapping_add(rng.below(3) as u32).wrapping_sub(1)),
+    }
+}
+
 /// An output of `length` bytes, none of which looks like what will be written.
 pub fn output(rng: &mut Rng, length: usize) -> Vec<u8> {
     let fill = 0x80 | rng.next() as u8;
@@ -325,5 +334,13 @@ impl World {
 
     pub fn full(&self) -> Call {
         Call::full(self.state, self.snapshots.clone(), self.deltas.clone())
+    }
+
+    pub fn query_messages(&self, session: u16, serial: u32, times: [u32; 3]) -> Call {
+        Call::query_messages(self.query(session, serial), times)
+    }
+
+    pub fn full_messages(&self, times: [u32; 3]) -> Call {
+        Call::full_messages(self.full(), times, vec![])
     }
 }

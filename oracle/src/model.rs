@@ -7,6 +7,7 @@ use std::collections::BTreeMap;
 
 use crate::call::{Answer, Call, Entry, Outcome, Reply, State};
 use crate::field::{put, split_update};
+use crate::message;
 
 pub const SNAPSHOT_LIMIT: usize = 16_777_216;
 pub const DELTA_LIMIT: usize = 33_554_432;
@@ -333,7 +334,7 @@ fn accept(call: &Call, out: &mut Outcome) -> Result<(), Refused> {
             out.answer = Answer { kind: 1, length: made.len() as u64, ..Answer::default() };
         }
         Entry::Create => {
-            let [session, keep, start] = call.numbers;
+            let [session, keep, start, ..] = call.numbers;
             let start = start as u32;
             if !(1..=64).contains(&keep) {
                 return Err(Refused(8, 0, 0));
@@ -379,7 +380,7 @@ fn accept(call: &Call, out: &mut Outcome) -> Result<(), Refused> {
         }
         Entry::Query => {
             let held = history(state, first, second)?;
-            let [session, serial, _] = call.numbers;
+            let [session, serial, ..] = call.numbers;
             out.answer = ask(&held, state, session, serial as u32, &mut out.bytes[2])?;
             out.numbers[0] = state.session % 65_536;
         }
@@ -417,11 +418,53 @@ fn accept(call: &Call, out: &mut Outcome) -> Result<(), Refused> {
         }
         Entry::Ready => out.numbers[0] = (state.active != 0).into(),
         Entry::Timing => {
-            let [refresh, retry, expire] = call.numbers.map(|x| x as u32);
-            let (refresh, retry, expire) = timing(refresh, retry, expire);
+            let (refresh, retry, expire) = times(call, 0);
             out.numbers = [refresh.into(), retry.into(), expire.into()];
         }
+        Entry::QueryMessages => {
+            let held = history(state, first, second)?;
+            let [session, serial, ..] = call.numbers;
+            if session != state.session % 65_536 {
+                return send(&message::error_report(session as u16, serial as u32), 3, 5, out);
+            }
+            match held.since(state.newest, serial as u32) {
+                Ok(delta) => send_data(&delta, times(call, 2), state, out)?,
+                Err(_) => send(&message::cache_reset(), 2, 6, out)?,
+            }
+        }
+        Entry::FullMessages => {
+            let held = history(state, first, second)?;
+            let all = difference(&Snapshot::new(), &held.now);
+            send_data(&all, times(call, 0), state, out)?;
+        }
+        Entry::NotifyMessage => {
+            send(&message::serial_notify(state.session as u16, state.newest), 1, 0, out)?;
+            out.answer.serial = state.newest;
+            out.numbers[0] = state.session % 65_536;
+        }
     }
+    Ok(())
+}
+
+/// The times that stand at `at` among the numbers, as they are told.
+fn times(call: &Call, at: usize) -> (u32, u32, u32) {
+    let number = |i: usize| call.numbers[at + i] as u32;
+    timing(number(0), number(1), number(2))
+}
+
+/// Request E1: messages, or refusal 4 and nothing.
+fn send(bytes: &[u8], kind: u32, number: u32, out: &mut Outcome) -> Result<(), Refused> {
+    lend(bytes, &mut out.bytes[2], 4)?;
+    out.answer = Answer { kind, number, length: bytes.len() as u64, ..Answer::default() };
+    Ok(())
+}
+
+fn send_data(delta: &Delta, times: (u32, u32, u32), state: &State, out: &mut Outcome) -> Result<(), Refused> {
+    let written = message::answer(state.session as u16, state.newest, times, delta);
+    send(&written.bytes, 1, 0, out)?;
+    out.answer.serial = state.newest;
+    (out.answer.announced, out.answer.withdrawn) = (written.announced, written.withdrawn);
+    out.numbers = [state.session % 65_536, 0, written.aspas_skipped];
     Ok(())
 }
 

@@ -100,6 +100,11 @@ impl History {
         self.0.read().delta_since(Serial(serial))
     }
 
+    /// What a server sees of the delta that is served; None where none is.
+    pub fn shown_since(&self, serial: u32) -> Option<Vec<(u8, bool, Vec<u8>)>> {
+        self.delta_since(serial).map(shown)
+    }
+
     /// Whether `diff` serves a router of the history's own session, and one of another.
     pub fn diff(&self, serial: u32) -> (bool, bool) {
         let session = self.0.notify().session();
@@ -240,8 +245,8 @@ fn unhex(text: &str) -> Vec<u8> {
 
 /// What a server sees of a delta: the tag in a snapshot, whether announced, and the body. An update is an
 /// announcement, a withdrawn ASPA its customer alone.
-pub fn shown(delta: PayloadDelta) -> Vec<(u8, bool, Vec<u8>)> {
-    let mut iter = Arc::new(delta).arc_iter();
+pub fn shown(delta: impl Into<Arc<PayloadDelta>>) -> Vec<(u8, bool, Vec<u8>)> {
+    let mut iter = delta.into().arc_iter();
     let mut out = Vec::new();
     while let Some((item, action)) = iter.next() {
         let (tag, body) = payload(&item);

@@ -151,6 +151,7 @@ impl<F: FnMut(&Call) -> Outcome> Player<F> {
             "query" => self.query(line),
             "queries" => self.queries(line),
             "full" => self.full(),
+            "query-messages" | "full-messages" | "notify-message" => self.messages(line),
             "notify" => {
                 let told = (self.run)(&Call::notify(self.state));
                 named(&told)
@@ -270,6 +271,41 @@ impl<F: FnMut(&Call) -> Outcome> Player<F> {
             _ => served(&left.answer, &out),
         };
         named(&left) + &answer
+    }
+
+    /// query-messages NAME SESSION SERIAL REFRESH RETRY EXPIRE ROOM, full-messages NAME REFRESH RETRY EXPIRE ROOM,
+    /// notify-message NAME ROOM
+    fn messages(&mut self, line: &Line<'_>) -> String {
+        let [snapshots, deltas] = self.stores.each_ref().map(Store::lent);
+        let times = |at: usize| [0, 1, 2].map(|i| line.u32(at + i));
+        let lent = |at: usize| vec![MARK; line.number(at) as usize];
+        let call = match line.0[0] {
+            "query-messages" => {
+                let (session, serial) = (line.number(1) as u16, line.u32(2));
+                let query = Call::query(self.state, session, serial, snapshots, deltas, lent(6));
+                Call::query_messages(query, times(3))
+            }
+            "full-messages" => {
+                Call::full_messages(Call::full(self.state, snapshots, deltas), times(1), lent(4))
+            }
+            _ => Call::notify_message(self.state, lent(1)),
+        };
+        let left = (self.run)(&call);
+        let (answer, out) = (&left.answer, whole(&left.bytes[2]));
+        let [_, keys, aspas] = left.numbers;
+        let skipped = format!(" skipped {keys} {aspas}");
+        let nothing =
+            Answer { kind: answer.kind, number: answer.number, length: answer.length, ..Answer::default() };
+        let stray = if *answer == nothing && left.numbers == [0; 3] { "" } else { " STRAY" };
+        let sent = match answer.kind {
+            0 => refused(answer) + kept(&out),
+            1 => " data".to_string() + &counts(answer) + &skipped + &written(&out, answer.length as usize),
+            kind => {
+                let name = if kind == 2 { " cache-reset" } else { " error-report" };
+                format!("{name} {}{stray}{}", answer.number, written(&out, answer.length as usize))
+            }
+        };
+        named(&left) + &sent
     }
 
     /// queries NAME ROOM LIST

@@ -3,8 +3,18 @@ use crate::call::{Call, Entry, State};
 use crate::field::pieces;
 use crate::model;
 
+/// Calls with more bytes are left as they are: each step is a copy.
+const LONG: usize = 1 << 20;
+
+fn size(call: &Call) -> usize {
+    call.bytes.iter().map(Vec::len).sum()
+}
+
 /// Takes the first smaller call that still differs, again and again.
 pub fn shrink(mut call: Call, mut differs: impl FnMut(&Call) -> bool) -> Call {
+    if size(&call) > LONG {
+        return call;
+    }
     let mut tries = 20_000;
     'again: loop {
         for smaller in smaller(&call) {
@@ -27,7 +37,6 @@ fn smaller(call: &Call) -> Vec<Call> {
     let mut step = |change: &dyn Fn(&mut Call)| {
         let mut next = call.clone();
         change(&mut next);
-        let size = |c: &Call| c.bytes.iter().map(Vec::len).sum::<usize>();
         if size(&next) < size(call)
             || next.list.len() < call.list.len()
             || next.numbers != call.numbers
@@ -114,10 +123,10 @@ fn smaller(call: &Call) -> Vec<Call> {
         step(&|c| drop(c.list.drain(at..call.list.len().min(at + 6))));
     }
     // numbers
-    for i in 0..3 {
+    for i in 0..call.numbers.len() {
         step(&|c| c.numbers[i] = 0);
     }
-    if !matches!(call.entry, Entry::Query | Entry::QueryAll) {
+    if !matches!(call.entry, Entry::Query | Entry::QueryAll | Entry::QueryMessages) {
         step(&|c| c.state.session = 0);
     }
     if call.state != State::ZERO && call.state.n <= 64 {

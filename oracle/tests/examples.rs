@@ -22,6 +22,12 @@ fn examples_by_model() {
     assert!(by_model("examples").lines().count() >= 610);
 }
 
+/// What tools/peers serves to real clients.
+#[test]
+fn peers_by_model() {
+    assert!(by_model("peers").lines().count() >= 40);
+}
+
 #[test]
 fn replay_by_model() {
     assert!(by_model("replay").lines().count() >= 2000);

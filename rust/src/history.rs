@@ -1,4 +1,4 @@
-use crate::{raw, Delta, Refusal, Serial, Session, QUERY_LIMIT};
+use crate::{raw, Delta, Refusal, Serial, Session, Timing, QUERY_LIMIT};
 
 /// The newest snapshot and the last deltas, and what a router is to be sent.
 ///
@@ -55,6 +55,56 @@ pub struct Full<'a> {
     pub session: Session,
     pub serial: Serial,
     pub snapshot: &'a [u8],
+}
+
+/// Router messages that were written to the first `length` bytes of the output.
+#[derive(Clone, Copy, Debug, Eq, PartialEq)]
+pub enum Sent {
+    /// What was asked for.
+    Data(Messages),
+    /// A Cache Reset: the deltas since the router's serial are not held.
+    CacheReset { length: usize },
+    /// An Error Report: the router named another session.
+    ErrorReport { length: usize },
+}
+
+/// What the messages from the Cache Response to the End of Data say.
+#[derive(Clone, Copy, Debug, Eq, PartialEq)]
+pub struct Messages {
+    pub session: Session,
+    pub serial: Serial,
+    pub length: usize,
+    /// How many of them announce an item.
+    pub announced: u64,
+    /// How many of them withdraw one.
+    pub withdrawn: u64,
+    /// How many items there is no message for.
+    pub router_keys_skipped: u64,
+    pub aspas_skipped: u64,
+}
+
+impl Messages {
+    fn of(sent: &raw::Sent) -> Self {
+        Messages {
+            session: sent.session,
+            serial: sent.answer.serial,
+            length: sent.answer.length as usize,
+            announced: sent.answer.announced,
+            withdrawn: sent.answer.withdrawn,
+            router_keys_skipped: sent.router_keys_skipped,
+            aspas_skipped: sent.aspas_skipped,
+        }
+    }
+}
+
+impl Sent {
+    /// How many bytes to send to the router.
+    pub fn length(&self) -> usize {
+        match self {
+            Sent::Data(messages) => messages.length,
+            Sent::CacheReset { length } | Sent::ErrorReport { length } => *length,
+        }
+    }
 }
 
 /// The replies to the queries of an appliance: the session and serial to name to the routers, and
@@ -199,6 +249,63 @@ impl History {
     /// Whether the history has a snapshot yet.
     pub fn ready(&self) -> bool {
         raw::ready(self.state)
+    }
+
+    /// Writes the messages of RFC 8210, version 1, that answer the Serial Query of a router at `serial`
+    /// of `session`: what [`query`](History::query) says, or a Cache Reset or an Error Report where it
+    /// refuses with [`Refusal::NotServed`] or [`Refusal::OtherSession`]. The times are brought into
+    /// their ranges as [`timing`](crate::timing) does. There is no message for ASPAs: they are skipped
+    /// and counted.
+    ///
+    /// ```
+    /// use taplevung::{History, Refusal, Sent, Serial, Session, Timing};
+    ///
+    /// // 192.0.2.0/24, maximum length 24, AS 64496.
+    /// let origin = b"\x01\x00\x17\x04\xc0\x00\x02\x00\0\0\0\0\0\0\0\0\0\0\0\0\x18\x18\x00\x00\xfb\xf0";
+    /// let mut history = History::new(77, 10, 1000, 1000)?;
+    /// history.update(b"")?;
+    /// history.update(origin)?;
+    ///
+    /// let times = Timing { refresh: 3600, retry: 600, expire: 7200 };
+    /// let mut out = [0; 100];
+    /// let Sent::Data(messages) = history.query_messages(Session(77), Serial(0), times, &mut out)? else { panic!() };
+    /// assert_eq!((messages.serial, messages.announced, messages.length), (Serial(1), 1, 8 + 20 + 24));
+    /// assert_eq!(out[8..28], *b"\x01\x04\0\0\0\0\0\x14\x01\x18\x18\0\xc0\x00\x02\x00\x00\x00\xfb\xf0");
+    /// assert_eq!(history.query_messages(Session(77), Serial(9), times, &mut out)?, Sent::CacheReset { length: 8 });
+    /// # Ok::<(), Refusal>(())
+    /// ```
+    pub fn query_messages(
+        &self,
+        session: Session,
+        serial: Serial,
+        times: Timing,
+        out: &mut [u8],
+    ) -> Result<Sent, Refusal> {
+        let sent =
+            raw::query_messages(self.state, session, serial, times, &self.snapshots, &self.deltas, out);
+        Refusal::check(&sent.answer)?;
+        let length = sent.answer.length as usize;
+        Ok(match sent.answer.kind {
+            1 => Sent::Data(Messages::of(&sent)),
+            2 => Sent::CacheReset { length },
+            _ => Sent::ErrorReport { length },
+        })
+    }
+
+    /// Writes the messages that answer a Reset Query: the held snapshot's items, announced. Before the
+    /// first update there are none between Cache Response and End of Data; [`ready`](History::ready)
+    /// tells.
+    pub fn full_messages(&self, times: Timing, out: &mut [u8]) -> Result<Messages, Refusal> {
+        let sent = raw::full_messages(self.state, times, &self.snapshots, &self.deltas, out);
+        Refusal::check(&sent.answer)?;
+        Ok(Messages::of(&sent))
+    }
+
+    /// Writes the Serial Notify, and says how long it is.
+    pub fn notify_message(&self, out: &mut [u8]) -> Result<usize, Refusal> {
+        let sent = raw::notify_message(self.state, out);
+        Refusal::check(&sent.answer)?;
+        Ok(sent.answer.length as usize)
     }
 
     /// The state, for a program that stores it beside the bytes of both stores.

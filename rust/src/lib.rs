@@ -31,7 +31,7 @@ mod history;
 pub mod raw;
 mod refusal;
 
-pub use history::{Full, History, Replies, Reply, Served, Updated};
+pub use history::{Full, History, Messages, Replies, Reply, Sent, Served, Updated};
 pub use refusal::Refusal;
 
 /// The longest snapshot, and snapshot store, in bytes.

@@ -90,6 +90,18 @@ pub struct Notice {
     pub serial: Serial,
 }
 
+/// The answer of the calls that write router messages.
+#[repr(C)]
+#[derive(Clone, Copy, Debug, Eq, PartialEq)]
+pub struct Sent {
+    pub answer: Answer,
+    /// The session that the messages name.
+    pub session: Session,
+    /// Items that there is no message for.
+    pub router_keys_skipped: u64,
+    pub aspas_skipped: u64,
+}
+
 mod c {
     use super::*;
 
@@ -169,6 +181,29 @@ mod c {
         ) -> Told;
         pub fn taplevung_notify(state: State) -> Notice;
         pub fn taplevung_ready(state: State) -> bool;
+        pub fn taplevung_query_messages(
+            state: State,
+            session: Session,
+            serial: Serial,
+            times: Timing,
+            snapshots: *const u8,
+            snapshots_length: usize,
+            deltas: *const u8,
+            deltas_length: usize,
+            out: *mut u8,
+            out_length: usize,
+        ) -> Sent;
+        pub fn taplevung_full_messages(
+            state: State,
+            times: Timing,
+            snapshots: *const u8,
+            snapshots_length: usize,
+            deltas: *const u8,
+            deltas_length: usize,
+            out: *mut u8,
+            out_length: usize,
+        ) -> Sent;
+        pub fn taplevung_notify_message(state: State, out: *mut u8, out_length: usize) -> Sent;
         pub fn taplevung_timing(refresh: u32, retry: u32, expire: u32) -> Timing;
     }
 }
@@ -311,6 +346,56 @@ pub fn notify(state: State) -> Notice {
 pub fn ready(state: State) -> bool {
     // SAFETY: plain numbers.
     unsafe { c::taplevung_ready(state) }
+}
+
+/// `taplevung_query_messages`: the messages that answer a Serial Query.
+pub fn query_messages(
+    state: State,
+    session: Session,
+    serial: Serial,
+    times: Timing,
+    snapshots: &[u8],
+    deltas: &[u8],
+    out: &mut [u8],
+) -> Sent {
+    // SAFETY: as in `construct`.
+    unsafe {
+        c::taplevung_query_messages(
+            state,
+            session,
+            serial,
+            times,
+            snapshots.as_ptr(),
+            snapshots.len(),
+            deltas.as_ptr(),
+            deltas.len(),
+            out.as_mut_ptr(),
+            out.len(),
+        )
+    }
+}
+
+/// `taplevung_full_messages`: the messages that answer a Reset Query.
+pub fn full_messages(state: State, times: Timing, snapshots: &[u8], deltas: &[u8], out: &mut [u8]) -> Sent {
+    // SAFETY: as in `construct`.
+    unsafe {
+        c::taplevung_full_messages(
+            state,
+            times,
+            snapshots.as_ptr(),
+            snapshots.len(),
+            deltas.as_ptr(),
+            deltas.len(),
+            out.as_mut_ptr(),
+            out.len(),
+        )
+    }
+}
+
+/// `taplevung_notify_message`: the Serial Notify.
+pub fn notify_message(state: State, out: &mut [u8]) -> Sent {
+    // SAFETY: as in `construct`.
+    unsafe { c::taplevung_notify_message(state, out.as_mut_ptr(), out.len()) }
 }
 
 /// `taplevung_timing`: each interval brought into its range, and expire above the two others.

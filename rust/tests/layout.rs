@@ -4,7 +4,7 @@ use std::mem::{offset_of, size_of};
 use std::path::Path;
 use std::process::Command;
 
-use taplevung::raw::{Answer, Made, Notice, Replies, Reply, State, Told};
+use taplevung::raw::{Answer, Made, Notice, Replies, Reply, Sent, State, Told};
 use taplevung::{Serial, Session, Timing};
 
 /// The C program's lines, and the lines that Rust's layout makes. The names of a struct's fields are
@@ -48,6 +48,10 @@ fn same_as_in_c() {
         taplevung_replies Replies { answer = answer, session = session, count = count, replies = replies }
         taplevung_notice Notice { session = session, serial = serial }
         taplevung_timing_values Timing { refresh = refresh, retry = retry, expire = expire }
+        taplevung_sent Sent {
+            answer = answer, session = session, router_keys_skipped = router_keys_skipped,
+            aspas_skipped = aspas_skipped
+        }
     };
     let program =
         format!("#include \"taplevung.h\"\n#include <stdio.h>\nint main(void) {{\n{body}return 0;\n}}\n");

@@ -118,7 +118,7 @@ both : (a b : Bool) → (a && b) ≡ true → (a ≡ true) × (b ≡ true)
 both true b e = (refl, e)
 both false b e = absurd (let z : _≡_ {A = ℕ} 0 1 = cc in omega arith)
 
-fine-true : (v : Verdict) → isFine v ≡ true → v ≡ verdict.Fine
+pub fine-true : (v : Verdict) → isFine v ≡ true → v ≡ verdict.Fine
 fine-true verdict.Fine e = refl
 fine-true (verdict.Bad at) e = absurd (let z : _≡_ {A = ℕ} 0 1 = cc in omega arith)
 fine-true (verdict.Senseless at) e = absurd (let z : _≡_ {A = ℕ} 0 1 = cc in omega arith)
@@ -147,7 +147,7 @@ module _ (h : History) (snapshots deltas : Bytes) (e : wellFormed h snapshots de
       omega (arith, leb-true (h .n) (h .keep) (a .1), leb-true (h .keep) 64 (b .1))
 
   -- with no deltas F is the start serial
-  formed-serial : h .n ≡ 0 → h .newest .0 ≡ h .start .0
+  pub formed-serial : h .n ≡ 0 → h .newest .0 ≡ h .start .0
   formed-serial z = go (h .active) (rw z at (split .0 .1))
     where
       go : (t : Bool) → cond t (cond (eqb 0 0) (eqb (h .newest .0) (h .start .0)) true) (eqb (h .newest .0) (h .start .0)) ≡ true → h .newest .0 ≡ h .start .0

@@ -184,12 +184,12 @@ module _ (s : Bytes) (lengths : List ℕ) (n : ℕ) (r : Places) (p : Placed len
         ∙ sym (cuts-drop (n - d) (take n lengths) s)
         )
 
-    last-is : runs s (r .at) (r .ends) (n - d) n ≡ map changes (lastN d (cuts (take n lengths) s))
+    pub last-is : runs s (r .at) (r .ends) (n - d) n ≡ map changes (lastN d (cuts (take n lengths) s))
     last-is =
         let e : length (cuts (take n lengths) s) ≡ n = cuts-length (take n lengths) s ∙ length-take n lengths ∙ omega (arith, p .known) in
         tail-is ∙ rw e
 
-    left-is : leftOf s (r .at) (r .ends) (n - d) n ≡ lastMerged s lengths n d
+    pub left-is : leftOf s (r .at) (r .ends) (n - d) n ≡ lastMerged s lengths n d
     left-is = ap (mergeAll bytes bytes) last-is
 
     module _ (t : Stored s lengths n) where

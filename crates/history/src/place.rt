@@ -9,7 +9,7 @@ pub struct Places {
 }
 
 // The places of the first n deltas: they lie one behind the other.
-pub(crate) fn place_all(lengths: [u32; 64], n: usize) -> Places
+pub fn place_all(lengths: [u32; 64], n: usize) -> Places
     requires { ⌜ Summed lengths n ⌝ }
     ensures { λ r. ⌜ Placed lengths n r ⌝ }
 {

@@ -37,7 +37,7 @@ fn drops(history: History) -> usize
 }
 
 // The sum of the lengths from `from` up to `to`.
-pub(crate) fn sum_lengths(lens: [u32; 64], from: usize, to: usize) -> usize
+pub fn sum_lengths(lens: [u32; 64], from: usize, to: usize) -> usize
     requires { ⌜ (from ≤ to) × (to ≤ 64) ⌝ }
     ensures { λ r. ⌜ r ≡ total (between lens from to) ⌝ }
 {

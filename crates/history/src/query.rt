@@ -34,7 +34,7 @@ fn refused(refusal: Refusal) -> Queried
 }
 
 // Whether the session is the history's modulo 65,536.
-fn is_session(history: History, session: Session) -> bool
+pub fn is_session(history: History, session: Session) -> bool
     ensures { λ r. ⌜ r ≡ isSession history session ⌝ }
 {
     let own = session16(history.session);
@@ -42,7 +42,7 @@ fn is_session(history: History, session: Session) -> bool
 }
 
 // Whether, with n deltas, a serial is served that is d steps before the newest.
-fn is_served(start: Serial, n: u32, asked: Serial, d: u32) -> bool
+pub fn is_served(start: Serial, n: u32, asked: Serial, d: u32) -> bool
     ensures { λ r. ⌜ r ≡ isServed start n asked d ⌝ }
 {
     if n == 0 {

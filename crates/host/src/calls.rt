@@ -3,6 +3,8 @@ use crate::answer::Answer;
 use crate::answer::applied_as;
 use crate::answer::constructed_as;
 use crate::answer::merged_as;
+use crate::sent::Sent;
+use crate::sent::sent_as;
 use crate::state::State;
 use crate::state::history_of;
 use crate::told::Made;
@@ -23,11 +25,15 @@ use history::notify::notify;
 use history::notify::ready;
 use history::query::query;
 use history::update::update_with;
+use message::version::Version;
 use past::notify::Notice;
 use serial::Serial;
 use serial::Session;
 use serial::timing::Timing;
 use serial::timing::clamp;
+use wire::full::full_messages;
+use wire::notify::notify_message;
+use wire::query::query_messages;
 ghost use mathlib.Core.Path.{_≡_};
 ghost use lib.ListN.{length};
 ghost use Rattle.serial.specs.Timing.{timingOf};
@@ -37,7 +43,10 @@ ghost use Rattle.past.specs.Query.{queryOf, queryOut};
 ghost use Rattle.past.specs.Update.{updateOf, updateSnapshots, updateDeltas};
 ghost use Rattle.past.specs.Full.{fullOf, notifyOf, readyOf};
 ghost use Rattle.appliance.specs.QueryAll.{queryAllOf, queryAllOut};
+ghost use Rattle.message.specs.declared.version.Version.the-variants.{Rfc8210};
+ghost use Rattle.wire.specs.Answer.{sentAt, outAt, queryPlan, fullPlan, notifyPlan};
 ghost use Rattle.host.specs.State.{historyOf};
+ghost use Rattle.host.specs.Sent.{flatSent};
 ghost use Rattle.host.specs.Told.{madeCreated, madeUpdated, toldQueried, toldFull, flatReplied};
 ghost use Rattle.host.specs.Flat.{flatConstructed, flatMerged, flatApplied};
 
@@ -160,4 +169,51 @@ pub extern "C" fn taplevung_ready(state: State) -> bool
 {
     let h = history_of(state);
     ready(h)
+}
+
+#[no_mangle]
+pub extern "C" fn taplevung_query_messages(
+    state: State,
+    session: Session,
+    serial: Serial,
+    times: Timing,
+    snapshots: &[u8],
+    deltas: &[u8],
+    out: &mut [u8],
+) -> Sent
+    ensures { λ r. ⌜ (r ≡ flatSent (sentAt (queryPlan Rfc8210 (historyOf state) session serial times (now (snapshots .entry)) (now (deltas .entry))) (length (now (out .entry))))) × (now (out .exit) ≡ outAt (queryPlan Rfc8210 (historyOf state) session serial times (now (snapshots .entry)) (now (deltas .entry))) (now (out .entry))) ⌝ }
+{
+    let h = history_of(state);
+    sent_as(query_messages(
+        Version::Rfc8210,
+        h,
+        session,
+        serial,
+        times,
+        snapshots,
+        deltas,
+        out,
+    ))
+}
+
+#[no_mangle]
+pub extern "C" fn taplevung_full_messages(
+    state: State,
+    times: Timing,
+    snapshots: &[u8],
+    deltas: &[u8],
+    out: &mut [u8],
+) -> Sent
+    ensures { λ r. ⌜ (r ≡ flatSent (sentAt (fullPlan Rfc8210 (historyOf state) times (now (snapshots .entry)) (now (deltas .entry))) (length (now (out .entry))))) × (now (out .exit) ≡ outAt (fullPlan Rfc8210 (historyOf state) times (now (snapshots .entry)) (now (deltas .entry))) (now (out .entry))) ⌝ }
+{
+    let h = history_of(state);
+    sent_as(full_messages(Version::Rfc8210, h, times, snapshots, deltas, out))
+}
+
+#[no_mangle]
+pub extern "C" fn taplevung_notify_message(state: State, out: &mut [u8]) -> Sent
+    ensures { λ r. ⌜ (r ≡ flatSent (sentAt (notifyPlan Rfc8210 (historyOf state)) (length (now (out .entry))))) × (now (out .exit) ≡ outAt (notifyPlan Rfc8210 (historyOf state)) (now (out .entry))) ⌝ }
+{
+    let h = history_of(state);
+    sent_as(notify_message(Version::Rfc8210, h, out))
 }

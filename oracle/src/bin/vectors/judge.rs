@@ -66,6 +66,8 @@ impl Judge {
             Entry::QueryAll => {} // the Rust has no such call
             Entry::Full | Entry::Notify | Entry::Ready => self.full(call, &outcome),
             Entry::Timing => self.timing(call, &outcome),
+            // the Rust leaves messages to another crate
+            Entry::QueryMessages | Entry::FullMessages | Entry::NotifyMessage => {}
         }
         outcome
     }
@@ -202,6 +204,8 @@ impl Judge {
         }
         wanted.extend([(1, 1), (2, 1), (12, 1), (7, 0), (9, 0)].map(|(n, a)| (Update, n, a)));
         wanted.extend([4, 5, 6, 7].map(|n| (Query, n, 0)));
+        wanted.extend([4, 5, 6, 7].map(|n| (QueryMessages, n, 0)));
+        wanted.extend([(FullMessages, 4, 0), (FullMessages, 7, 0), (NotifyMessage, 4, 0)]);
         for refusal in wanted {
             assert!(self.refusals.contains(&refusal), "not met: {refusal:?}");
         }
@@ -211,7 +215,7 @@ impl Judge {
                 assert!(self.pairs.contains(&(kind, e, l)), "not met: the pair {:?}", (kind, e, l));
             }
         }
-        for entry in [Construct, Merge, Apply, Update, Query] {
+        for entry in [Construct, Merge, Apply, Update, Query, QueryMessages, FullMessages, NotifyMessage] {
             assert!(self.exact.contains(&entry), "not met: exact room of {entry:?}");
         }
         for keep in crate::list::KEEPS.iter().copied() {

@@ -3,7 +3,7 @@ use std::fmt::Write;
 
 use oracle::call::{Call, Entry, State};
 use oracle::damage::{damage, damage_sense, ill_form};
-use oracle::make::{pairs, serial, Universe, World};
+use oracle::make::{pairs, serial, times, Universe, World};
 use oracle::model::{self, Form, Snapshot};
 use oracle::rng::Rng;
 use oracle::script::pack;
@@ -209,6 +209,11 @@ pub fn runs() -> String {
         let universe = Universe::few(&mut rng, 1 + i % 2);
         list.formed(&mut rng, &universe);
     }
+    list.part("messages", "router messages of histories by construction, at times not well formed");
+    for i in 0..80 {
+        let universe = Universe::few(&mut rng, 3 + i % 4);
+        list.messages(&mut rng, &universe);
+    }
     list.text
 }
 
@@ -320,14 +325,11 @@ impl List {
         self.line("state", &[session.to_string()].into_iter().chain(numbers).collect::<Vec<_>>());
     }
 
-    fn formed(&mut self, rng: &mut Rng, universe: &Universe) {
-        let mut world = World::new(rng, universe);
-        if !rng.one_in(5) {
-            ill_form(rng, &mut world);
-        }
-        let World { state, snapshots, deltas } = &mut world;
+    /// Holds a history, unless its bytes are many. How long its stores are.
+    fn hold(&mut self, world: &mut World) -> Option<[String; 2]> {
+        let World { state, snapshots, deltas } = world;
         if snapshots.len() >= 500 || deltas.len() >= 500 {
-            return;
+            return None;
         }
         state.active = state.active.min(1);
         state.deltas[(state.n as usize).clamp(1, 64)..].fill(0);
@@ -335,6 +337,43 @@ impl List {
         let [snapshot_room, delta_room] = rooms.clone();
         self.line("hold", &[snapshot_room, pack(snapshots), delta_room, pack(deltas)]);
         self.state(state);
+        Some(rooms)
+    }
+
+    fn messages(&mut self, rng: &mut Rng, universe: &Universe) {
+        let mut world = World::new(rng, universe);
+        if rng.one_in(8) {
+            ill_form(rng, &mut world);
+        }
+        if self.hold(&mut world).is_none() {
+            return;
+        }
+        let state = world.state;
+        let asked = times(rng);
+        let [refresh, retry, expire] = asked.map(u64::from);
+        let needed = |rng: &mut Rng, call: Call| room(rng, &call).len() as u64;
+        for d in [0, 1, state.n, state.n.wrapping_add(1)] {
+            let session = if rng.one_in(6) { rng.next() } else { state.session } as u16;
+            let serial = state.newest.wrapping_sub(d);
+            let room = needed(rng, world.query_messages(session, serial, asked));
+            self.line(
+                "query-messages",
+                &words([session.into(), serial.into(), refresh, retry, expire, room]),
+            );
+        }
+        let room = needed(rng, world.full_messages(asked));
+        self.line("full-messages", &words([refresh, retry, expire, room]));
+        let room = needed(rng, Call::notify_message(state, vec![]));
+        self.line("notify-message", &words([room]));
+    }
+
+    fn formed(&mut self, rng: &mut Rng, universe: &Universe) {
+        let mut world = World::new(rng, universe);
+        if !rng.one_in(5) {
+            ill_form(rng, &mut world);
+        }
+        let Some(rooms) = self.hold(&mut world) else { return };
+        let state = &world.state;
         let (session, d) =
             (if rng.one_in(4) { rng.next() } else { state.session } as u16, rng.below(3) as u32);
         let new = model::snapshot_bytes(&universe.snapshot(rng));

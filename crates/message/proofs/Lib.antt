@@ -1,0 +1,4 @@
+pub mod Versions
+pub mod Examples
+pub mod Taking
+pub mod Spoken

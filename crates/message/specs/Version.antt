@@ -1,0 +1,30 @@
+-- What the versions of the protocol differ in.
+use Prim.Native.Nat.{ℕ}
+use mathlib.Core.List.{List, [], _++_}
+use mathlib.Core.Bool.{Bool}
+use lib.Dec.{leb}
+use lib.ListN.{drop}
+use Rattle.serial.specs.declared.timing.Timing.{Timing}
+use Rattle.field.specs.Number.{fourAt, fourBytes}
+use Rattle.message.specs.declared.version.Version.{Version}
+use Rattle.message.specs.declared.version.Version.the-variants.{Rfc8210}
+
+-- the byte that each message starts with
+abbrev pub versionNumber : Version → ℕ
+versionNumber Rfc8210 = 1
+
+-- the kinds of records that there is a message for: origins (1), router keys (2); never ASPAs (3)
+abbrev pub speaks : Version → ℕ → Bool
+speaks Rfc8210 kind = leb kind 2
+
+-- the times at the end of an End of Data: refresh, retry, expire
+abbrev pub timesBytes : Version → Timing → List ℕ
+timesBytes Rfc8210 t = fourBytes (t .refresh) ++ (fourBytes (t .retry) ++ fourBytes (t .expire))
+
+-- and what they are where they stand
+abbrev pub timesIn : Version → List ℕ → Timing
+timesIn Rfc8210 s = record { refresh = fourAt s 0; retry = fourAt s 4; expire = fourAt s 8 }
+
+-- the length of an End of Data
+abbrev pub endLength : Version → ℕ
+endLength Rfc8210 = 24

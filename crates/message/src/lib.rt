@@ -1,0 +1,2 @@
+// The messages of the RPKI-to-Router protocol.
+pub mod version;

@@ -1,0 +1,2 @@
+-- what the contracts of inner functions say
+pub mod Write

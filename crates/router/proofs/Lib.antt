@@ -1,0 +1,6 @@
+pub mod Trip
+pub mod Heard
+pub mod Routers
+pub mod Octets
+pub mod Given
+pub mod Running

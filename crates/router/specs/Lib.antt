@@ -1,0 +1,3 @@
+pub mod Send
+pub mod Heard
+pub mod Promise

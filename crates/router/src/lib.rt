@@ -1,0 +1,1 @@
+// What a router gets that reads the messages: definitions and proofs alone.
