@@ -1,0 +1,2 @@
+// The payload messages of an answer in message order, a batch at a time.
+pub mod next;

@@ -1,0 +1,1 @@
+// The messages of one answer, as they are heard.
