@@ -18,7 +18,7 @@ extern void *memcpy(void *, const void *, size_t);
 extern void *memset(void *, int, size_t);
 enum { PROT_NONE_ = 0, PROT_READ_WRITE_ = 3, MAP_PRIVATE_ANONYMOUS_ = 0x22 };
 
-enum entry { CONSTRUCT, MERGE, APPLY, CREATE, UPDATE, QUERY, FULL, NOTIFY, READY, TIMING };
+enum entry { CONSTRUCT, MERGE, APPLY, CREATE, UPDATE, QUERY, FULL, NOTIFY, READY, TIMING, JUDGE };
 
 struct request {
     uint64_t entry, numbers[3];
@@ -144,6 +144,15 @@ static void call(const struct request *q, uint8_t *const s[3], struct reply *r)
         r->numbers[0] = t.refresh;
         r->numbers[1] = t.retry;
         r->numbers[2] = t.expire;
+        break;
+    }
+    case JUDGE: {
+        taplevung_judged j = taplevung_judge(s[0], n[0], s[1], n[1], s[2], n[2]);
+        r->answer = j.answer;
+        r->state.session = j.session.value;
+        r->numbers[0] = j.timing.refresh;
+        r->numbers[1] = j.timing.retry;
+        r->numbers[2] = j.timing.expire;
         break;
     }
     }

@@ -124,6 +124,12 @@ fn make(call: &Call, [a, b, c]: [&mut [u8]; 3], left: &mut Outcome) {
             let times = raw::timing(first, second, third);
             left.numbers = [times.refresh, times.retry, times.expire].map(u64::from);
         }
+        Entry::Judge => {
+            let raw::Judged { answer: said, session, timing: times } = raw::judge(a, b, c);
+            left.answer = answer(said);
+            left.state.session = session.0.into();
+            left.numbers = [times.refresh, times.retry, times.expire].map(u64::from);
+        }
     }
 }
 

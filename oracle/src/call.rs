@@ -15,6 +15,7 @@ pub enum Entry {
     Notify,
     Ready,
     Timing,
+    Judge,
 }
 
 /// `taplevung_state`.
@@ -67,8 +68,9 @@ pub struct Call {
 #[derive(Clone, Eq, PartialEq)]
 pub struct Outcome {
     pub answer: Answer,
+    /// The state from then on; of judge the session alone.
     pub state: State,
-    /// The session; or whether ready; or the three times.
+    /// The session; or whether ready; or the three times, of judge too.
     pub numbers: [u64; 3],
     pub bytes: [Vec<u8>; 3],
 }
@@ -120,6 +122,9 @@ impl Call {
             Default::default(),
         )
     }
+    pub fn judge(snapshot: Vec<u8>, messages: Vec<u8>, out: Vec<u8>) -> Self {
+        Self::new(Entry::Judge, State::ZERO, [0; 3], [snapshot, messages, out])
+    }
 
     /// Which slices are the snapshot store and the delta store.
     pub fn stores(&self) -> Option<(usize, usize)> {
@@ -133,16 +138,16 @@ impl Call {
     /// Which slice is the output.
     pub fn out(&self) -> Option<usize> {
         match self.entry {
-            Entry::Construct | Entry::Merge | Entry::Apply | Entry::Query => Some(2),
+            Entry::Construct | Entry::Merge | Entry::Apply | Entry::Query | Entry::Judge => Some(2),
             _ => None,
         }
     }
 
-    /// Which slices are inputs, one behind the other from the first.
+    /// Which slices are inputs of fields, one behind the other from the first.
     pub fn inputs(&self) -> usize {
         match self.entry {
             Entry::Construct | Entry::Merge | Entry::Apply => 2,
-            Entry::Update => 1,
+            Entry::Update | Entry::Judge => 1,
             _ => 0,
         }
     }
@@ -175,7 +180,7 @@ impl Outcome {
     /// In words, after this call.
     pub fn tell(&self, call: &Call) -> String {
         let mut out = format!("  {:?}, numbers {:?}\n", self.answer, self.numbers);
-        if matches!(call.entry, Entry::Create | Entry::Update) {
+        if matches!(call.entry, Entry::Create | Entry::Update | Entry::Judge) {
             out += &format!("  state: {:?}\n", self.state);
         }
         for (i, (after, before)) in self.bytes.iter().zip(&call.bytes).enumerate() {

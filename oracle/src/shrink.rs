@@ -1,4 +1,5 @@
 //! Finds a smaller call that still shows a difference.
+use crate::answers;
 use crate::call::{Call, Entry, State};
 use crate::field::pieces;
 use crate::model;
@@ -63,6 +64,13 @@ fn smaller(call: &Call) -> Vec<Call> {
                 }
             }
         }
+    }
+    if call.entry == Entry::Judge {
+        let messages = answers::pieces(&call.bytes[1]);
+        for at in 0..messages.len() {
+            step(&|c| c.bytes[1] = [&messages[..at], &messages[at + 1..]].concat().concat());
+        }
+        step(&|c| c.bytes[1].truncate(c.bytes[1].len().saturating_sub(1)));
     }
     // outputs, and what stands behind the held bytes of stores
     if let Some(i) = call.out() {

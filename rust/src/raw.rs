@@ -66,6 +66,15 @@ pub struct Notice {
     pub serial: Serial,
 }
 
+/// The answer of [`judge`], and the session and the intervals of the End of Data.
+#[repr(C)]
+#[derive(Clone, Copy, Debug, Eq, PartialEq)]
+pub struct Judged {
+    pub answer: Answer,
+    pub session: Session,
+    pub timing: Timing,
+}
+
 mod c {
     use super::*;
 
@@ -135,6 +144,14 @@ mod c {
         pub fn taplevung_notify(state: State) -> Notice;
         pub fn taplevung_ready(state: State) -> bool;
         pub fn taplevung_timing(refresh: u32, retry: u32, expire: u32) -> Timing;
+        pub fn taplevung_judge(
+            snapshot: *const u8,
+            snapshot_length: usize,
+            messages: *const u8,
+            messages_length: usize,
+            out: *mut u8,
+            out_length: usize,
+        ) -> Judged;
     }
 }
 
@@ -264,4 +281,19 @@ pub fn ready(state: State) -> bool {
 pub fn timing(refresh: u32, retry: u32, expire: u32) -> Timing {
     // SAFETY: plain numbers.
     unsafe { c::taplevung_timing(refresh, retry, expire) }
+}
+
+/// `taplevung_judge`: the snapshot that the messages of another cache make of a snapshot.
+pub fn judge(snapshot: &[u8], messages: &[u8], out: &mut [u8]) -> Judged {
+    // SAFETY: as in `construct`.
+    unsafe {
+        c::taplevung_judge(
+            snapshot.as_ptr(),
+            snapshot.len(),
+            messages.as_ptr(),
+            messages.len(),
+            out.as_mut_ptr(),
+            out.len(),
+        )
+    }
 }

@@ -4,7 +4,7 @@ use std::mem::{offset_of, size_of};
 use std::path::Path;
 use std::process::Command;
 
-use taplevung::raw::{Answer, Made, Notice, State, Told};
+use taplevung::raw::{Answer, Judged, Made, Notice, State, Told};
 use taplevung::{Serial, Session, Timing};
 
 /// The C program's lines, and the lines that Rust's layout makes. The names of a struct's fields are
@@ -43,6 +43,7 @@ fn same_as_in_c() {
         taplevung_told Told { session = session, answer = answer }
         taplevung_notice Notice { session = session, serial = serial }
         taplevung_timing_values Timing { refresh = refresh, retry = retry, expire = expire }
+        taplevung_judged Judged { answer = answer, session = session, timing = timing }
     };
     let program =
         format!("#include \"taplevung.h\"\n#include <stdio.h>\nint main(void) {{\n{body}return 0;\n}}\n");

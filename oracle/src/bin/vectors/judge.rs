@@ -65,6 +65,8 @@ impl Judge {
             Entry::Query => self.query(call, &outcome),
             Entry::Full | Entry::Notify | Entry::Ready => self.full(call, &outcome),
             Entry::Timing => self.timing(call, &outcome),
+            // the Rust judges no other cache
+            Entry::Judge => {}
         }
         outcome
     }
