@@ -203,6 +203,7 @@ impl Judge {
         }
         wanted.extend([(1, 1), (2, 1), (12, 1), (7, 0), (9, 0)].map(|(n, a)| (Update, n, a)));
         wanted.extend([4, 5, 6, 7].map(|n| (Query, n, 0)));
+        wanted.extend([(1, 1), (13, 2), (14, 2), (15, 2), (4, 0)].map(|(n, a)| (Judge, n, a)));
         for refusal in wanted {
             assert!(self.refusals.contains(&refusal), "not met: {refusal:?}");
         }
@@ -212,7 +213,7 @@ impl Judge {
                 assert!(self.pairs.contains(&(kind, e, l)), "not met: the pair {:?}", (kind, e, l));
             }
         }
-        for entry in [Construct, Merge, Apply, Update, Query] {
+        for entry in [Construct, Merge, Apply, Update, Query, Judge] {
             assert!(self.exact.contains(&entry), "not met: exact room of {entry:?}");
         }
         for keep in crate::list::KEEPS.iter().copied() {
