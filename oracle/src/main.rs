@@ -548,9 +548,9 @@ impl Run {
     /// The captured answers, then rounds until so many damaged answers have been judged.
     fn judging(&mut self, damaged: u64) -> Checked {
         self.kind = "judge";
+        self.round = JUDGING;
         let captured = captures::all();
         captured.iter().try_for_each(|captured| self.captured(captured))?;
-        self.round = JUDGING;
         while self.damaged_answers < damaged {
             self.round += 1;
             let mut rng = Rng::new(self.seed, self.round);
