@@ -3,11 +3,14 @@
 //! - `bench race FOLDER [ROUNDS]` times all in one run, interleaved, and takes the best of each. It prints tables
 //!   of ratios and writes them to FOLDER/goals.md and FOLDER/tables.md, and a plot to FOLDER/growth.svg. Times
 //!   themselves say more of a machine than of the library, so there are none. `bench/run` starts this.
+//! - `bench judge FOLDER [ROUNDS [MOST]]` times the judge of other caches' messages, up to MOST of them, and writes
+//!   FOLDER/judge.md. `bench/run` starts this too.
 //! - `bench names` prints what can be counted, and `bench count ENTRY KIND WHO TIMES` runs one of those so many
 //!   times and prints how many fields its inputs have. `bench/count` starts these.
 mod data;
 mod entries;
 mod goals;
+mod judge;
 mod plain;
 mod plot;
 mod race;
@@ -26,12 +29,17 @@ fn main() {
     match words.iter().map(String::as_str).collect::<Vec<_>>()[..] {
         ["race", folder] => race_all(Path::new(folder), 15),
         ["race", folder, rounds] => race_all(Path::new(folder), rounds.parse().expect("a number of rounds")),
+        ["judge", folder] => judge(Path::new(folder), 3, usize::MAX),
+        ["judge", folder, rounds] => judge(Path::new(folder), rounds.parse().expect("a number"), usize::MAX),
+        ["judge", folder, rounds, most] => {
+            judge(Path::new(folder), rounds.parse().expect("a number"), most.parse().expect("a number"))
+        }
         ["names"] => names(),
         ["count", entry, kind, who, times] => {
             count(entry, kind, who, times.parse().expect("a number of times"))
         }
         _ => {
-            eprintln!("usage: bench race FOLDER [ROUNDS] | names | count ENTRY KIND WHO TIMES");
+            eprintln!("usage: bench race FOLDER [ROUNDS] | judge FOLDER [ROUNDS [MOST]] | names | count ENTRY KIND WHO TIMES");
             std::process::exit(2);
         }
     }
@@ -60,6 +68,12 @@ fn race_all(folder: &Path, rounds: u32) {
     for (name, text) in [("goals.md", goals), ("tables.md", tables), ("growth.svg", plot::plot(&panels))] {
         std::fs::write(folder.join(name), text).expect("the folder can be written");
     }
+}
+
+fn judge(folder: &Path, rounds: u32, most: usize) {
+    let text = judge::judge(rounds, most);
+    print!("{text}");
+    std::fs::write(folder.join("judge.md"), text).expect("the folder can be written");
 }
 
 /// Who is counted.

@@ -52,18 +52,18 @@ pub fn sets(rounds: u32) -> Vec<Set> {
 //------------ Tables --------------------------------------------------------
 
 /// A table: the heads, and in each row as many cells.
-fn table(heads: &[String], rows: impl Iterator<Item = Vec<String>>) -> String {
+pub fn table(heads: &[String], rows: impl Iterator<Item = Vec<String>>) -> String {
     let line = |cells: &[String]| format!("| {} |\n", cells.join(" | "));
     let mut out = line(heads) + &"|---".repeat(heads.len()) + "|\n";
     rows.for_each(|row| out += &line(&row));
     out + "\n"
 }
 
-fn strings<T: ToString>(first: &str, rest: impl IntoIterator<Item = T>) -> Vec<String> {
+pub fn strings<T: ToString>(first: &str, rest: impl IntoIterator<Item = T>) -> Vec<String> {
     std::iter::once(first.to_string()).chain(rest.into_iter().map(|c| c.to_string())).collect()
 }
 
-fn number(ratio: Option<f64>) -> String {
+pub fn number(ratio: Option<f64>) -> String {
     match ratio {
         None => "-".into(),
         Some(r) if r >= 100.0 => format!("{r:.0}"),
