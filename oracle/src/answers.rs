@@ -73,6 +73,33 @@ pub fn good(rng: &mut Rng, universe: &Universe, held: &Snapshot) -> Messages {
     out
 }
 
+/// An answer of so many messages, and what the one who asked held. Each record is named twice, all in ascending order (0),
+/// in descending (1), in runs (2) or in any.
+pub fn many(rng: &mut Rng, count: usize, order: usize) -> (Snapshot, Messages) {
+    let record = |i: usize| {
+        let number = (i as u32 / 2) << 8;
+        [&[1, 4][..], &number.to_be_bytes(), &[0; 12], &[24, 24, 0, 0, 0, 1]].concat()
+    };
+    let mut keys: Vec<Key> = (0..count).map(record).collect();
+    match order {
+        0 => {}
+        1 => keys.reverse(),
+        2 => keys.sort_by_key(|key| key[4] % 8),
+        _ => (1..count).rev().for_each(|i| keys.swap(i, rng.below(i + 1))),
+    }
+    let held: Snapshot = keys.iter().filter(|key| key[4] % 3 == 0).map(|key| (key.clone(), vec![])).collect();
+    let mut set = held.clone();
+    let mut out = vec![cache_response(7)];
+    for key in keys {
+        out.push(payload(u8::from(!set.contains_key(&key)), &key));
+        if set.remove(&key).is_none() {
+            set.insert(key, vec![]);
+        }
+    }
+    out.push(end_of_data(7, 1, [3600, 600, 7200]));
+    (held, out)
+}
+
 /// Puts anything into the fields that the RFC calls zero, which a reader ignores.
 fn fill_zeros(rng: &mut Rng, messages: &mut Messages) {
     for message in messages {

@@ -551,6 +551,7 @@ impl Run {
         self.round = JUDGING;
         let captured = captures::all();
         captured.iter().try_for_each(|captured| self.captured(captured))?;
+        self.many()?;
         while self.damaged_answers < damaged {
             self.round += 1;
             let mut rng = Rng::new(self.seed, self.round);
@@ -575,6 +576,23 @@ impl Run {
         self.compare(&call(answer, needed.saturating_sub(1)))?;
         if answer.len() < 150 {
             each_place(answer).try_for_each(|bad| self.damaged_answer(call(&bad, needed + 40)))?;
+        }
+        Ok(())
+    }
+
+    /// More messages than the judge takes at a time; then one, two and three of them with other flags, whichever comes first.
+    fn many(&mut self) -> Checked {
+        let mut rng = Rng::new(self.seed, JUDGING);
+        for (count, order) in
+            [5999, 6000, 6001, 9001, 14_000].into_iter().flat_map(|n| (0..4).map(move |o| (n, o)))
+        {
+            let (held, mut messages) = answers::many(&mut rng, count, order);
+            let held = bytes(&held);
+            self.compare(&room(&mut rng, Call::judge(held.clone(), messages.concat(), vec![])))?;
+            for flip in [1, 1, 3] {
+                messages[1 + rng.below(count)][8] ^= flip;
+                self.damaged_answer(Call::judge(held.clone(), messages.concat(), vec![0xEE; 30 * count]))?;
+            }
         }
         Ok(())
     }
