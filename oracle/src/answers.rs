@@ -73,14 +73,15 @@ pub fn good(rng: &mut Rng, universe: &Universe, held: &Snapshot) -> Messages {
     out
 }
 
-/// An answer of so many messages, and what the one who asked held. Each record is named twice, all in ascending order (0),
-/// in descending (1), in runs (2) or in any.
+/// An answer of so many messages, and what the one who asked held. Records are named once or a few times, in ascending order
+/// (0), in descending (1), in runs (2) or in any.
 pub fn many(rng: &mut Rng, count: usize, order: usize) -> (Snapshot, Messages) {
-    let record = |i: usize| {
-        let number = (i as u32 / 2) << 8;
-        [&[1, 4][..], &number.to_be_bytes(), &[0; 12], &[24, 24, 0, 0, 0, 1]].concat()
+    let mut number = 0u32;
+    let mut record = |_| {
+        number += rng.below(2) as u32;
+        [&[1, 4][..], &(number << 8).to_be_bytes(), &[0; 12], &[24, 24, 0, 0, 0, 1]].concat()
     };
-    let mut keys: Vec<Key> = (0..count).map(record).collect();
+    let mut keys: Vec<Key> = (0..count).map(&mut record).collect();
     match order {
         0 => {}
         1 => keys.reverse(),

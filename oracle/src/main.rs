@@ -580,13 +580,13 @@ impl Run {
         Ok(())
     }
 
-    /// More messages than the judge takes at a time; then one, two and three of them with other flags, whichever comes first.
+    /// More messages than the judge takes at a time, half of the answers in no order; then one, two and three of the messages
+    /// with other flags, whichever comes first.
     fn many(&mut self) -> Checked {
         let mut rng = Rng::new(self.seed, JUDGING);
-        for (count, order) in
-            [5999, 6000, 6001, 9001, 14_000].into_iter().flat_map(|n| (0..4).map(move |o| (n, o)))
-        {
-            let (held, mut messages) = answers::many(&mut rng, count, order);
+        for round in 0..36 {
+            let count = [5999, 6000, 6001].get(round / 6).copied().unwrap_or(6000 + rng.below(9000));
+            let (held, mut messages) = answers::many(&mut rng, count, round % 6);
             let held = bytes(&held);
             self.compare(&room(&mut rng, Call::judge(held.clone(), messages.concat(), vec![])))?;
             for flip in [1, 1, 3] {

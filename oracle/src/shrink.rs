@@ -1,16 +1,18 @@
 //! Finds a smaller call that still shows a difference.
+use std::time::{Duration, Instant};
+
 use crate::answers;
 use crate::call::{Call, Entry, State};
 use crate::field::pieces;
 use crate::model;
 
-/// Takes the first smaller call that still differs, again and again.
+/// Takes the first smaller call that still differs, again and again, for a minute at most.
 pub fn shrink(mut call: Call, mut differs: impl FnMut(&Call) -> bool) -> Call {
-    let mut tries = 20_000;
+    let (mut tries, start) = (20_000, Instant::now());
     'again: loop {
         for smaller in smaller(&call) {
             tries -= 1;
-            if tries == 0 {
+            if tries == 0 || start.elapsed() > Duration::from_secs(60) {
                 return call;
             }
             if differs(&smaller) {
