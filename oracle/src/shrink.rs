@@ -68,9 +68,13 @@ fn smaller(call: &Call) -> Vec<Call> {
         }
     }
     if call.entry == Entry::Judge {
+        // a half of the messages, or a part of at most a 64th
         let messages = answers::pieces(&call.bytes[1]);
-        for at in 0..messages.len() {
-            step(&|c| c.bytes[1] = [&messages[..at], &messages[at + 1..]].concat().concat());
+        for some in [messages.len() / 2, messages.len() / 64 + 1] {
+            for at in (0..messages.len()).step_by(some.max(1)) {
+                let behind = (at + some).min(messages.len());
+                step(&|c| c.bytes[1] = [&messages[..at], &messages[behind..]].concat().concat());
+            }
         }
         step(&|c| c.bytes[1].truncate(c.bytes[1].len().saturating_sub(1)));
     }
