@@ -1,1 +1,6 @@
 pub mod Walk
+-- what `judge` answers
+pub mod Answer
+-- what the contracts of inner functions say
+pub mod Stub
+pub mod State

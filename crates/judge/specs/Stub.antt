@@ -1,0 +1,43 @@
+-- stands in for heard and batch
+use Prim.Native.Nat.{ℕ, zero, suc, _+_, _≤_}
+use mathlib.Core.Path.{_≡_}
+use mathlib.Core.List.{List, [], _∷_, map}
+use mathlib.Core.Bool.{Bool, true, false, cond, not}
+use lib.ListN.{length, getD, drop}
+use Rattle.field.specs.Cells.{field}
+use Rattle.payload.specs.Content.{Bytes}
+use Rattle.message.specs.declared.version.Version.{Version}
+use Rattle.message.specs.Hear as message
+use Rattle.heard.specs.Place.{Payload, Messages, keyAt, announcesAt, toldAt, sizeAt}
+use Rattle.judge.specs.declared.stub.Stop.{Stop}
+use Rattle.judge.specs.declared.stub.Stop.the-variants.{Faulty, Ended}
+use Rattle.judge.specs.declared.stub.Heard.{Heard}
+
+abbrev pub recordField : Bytes → Bytes
+recordField k = field (getD k 0 0) (drop 1 k)
+
+abbrev pub stopIs : Stop → message.Stop
+stopIs (Faulty at) = message.faulty at
+stopIs (Ended session serial times) = message.ended (session .0) (serial .0) times
+
+unfoldable pub countFlags : Bytes → Bool → List ℕ → ℕ
+countFlags s b [] = 0
+countFlags s b (x ∷ xs) = cond (announcesAt s x) (cond b 1 0) (cond b 0 1) + countFlags s b xs
+
+unfoldable pub sumFields : Bytes → Bool → List ℕ → ℕ
+sumFields s b [] = 0
+sumFields s b (x ∷ xs) = cond (announcesAt s x) (cond b (length (recordField (keyAt s x))) 0) (cond b 0 (length (recordField (keyAt s x)))) + sumFields s b xs
+
+pub record HeardIs (v : Version) (s : Bytes) (r : Heard) : Type 0 where
+  pub xs : List ℕ
+  pub messages : Messages s 8 xs (r .over)
+  pub told : message.hear v s .told ≡ map (toldAt s) xs
+  pub stop : stopIs (r .stop) ≡ message.hear v s .stop
+  pub announced : r .announced ≡ countFlags s true xs
+  pub withdrawn : r .withdrawn ≡ countFlags s false xs
+  pub more : r .more ≡ sumFields s true xs
+  pub less : r .less ≡ sumFields s false xs
+
+pub record Told (s : Bytes) (stop low : ℕ) : Type 0 where
+  pub xs : List ℕ
+  pub messages : Messages s 8 xs stop
