@@ -1,3 +1,4 @@
 pub mod Sorting
 pub mod Records
 pub mod Faults
+pub mod Settled
