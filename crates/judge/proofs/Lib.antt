@@ -2,3 +2,4 @@ pub mod Sorting
 pub mod Records
 pub mod Faults
 pub mod Settled
+pub mod Lengths
