@@ -1,3 +1,4 @@
 pub mod Versions
 pub mod Examples
 pub mod Taking
+pub mod Spoken
