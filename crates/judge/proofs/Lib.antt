@@ -3,3 +3,4 @@ pub mod Records
 pub mod Faults
 pub mod Settled
 pub mod Lengths
+pub mod Results

@@ -4,10 +4,6 @@ use mathlib.Core.Path.{_≡_, refl, sym, ap, _∙_}
 use mathlib.Core.List.{List, [], _∷_}
 use mathlib.Core.Option.{Option, none, some}
 use mathlib.Core.Bool.{Bool, true, false, not, cond}
-use native.Mathlib.Omega.{arith}
-use lib.Dec.{eqb}
-use lib.ListN.{getD, drop}
-use borrow.Author.Tests.{eq-eqb}
 use Rattle.order.specs.declared.Ordering.{Ordering}
 use Rattle.order.specs.declared.Ordering.the-variants.{Less, Equal, Greater}
 use Rattle.order.specs.Comparison.{bytes}
@@ -16,42 +12,26 @@ use Rattle.order.proofs.Comparison.{strings}
 use Rattle.order.proofs.Map.{none≢some}
 use Rattle.change.specs.Change.{Change, announce, withdraw}
 use Rattle.change.specs.Difference as change
-use Rattle.change.specs.Application.{applyAt, apply, fits, isEqual}
-use Rattle.field.specs.declared.tag.Form.the-variants.{Snapshot, Delta}
-use Rattle.field.specs.Tag.{tagOf, goodBody}
+use Rattle.change.specs.Application.{applyAt, apply, fits}
+use Rattle.field.specs.declared.tag.Form.the-variants.{Snapshot}
 use Rattle.payload.specs.Content.{Bytes}
-use Rattle.payload.specs.Valid.{ValidValue, ValidChange, Valid, IsMap, origin, routerKey, aspa, announced, withdrawn}
+use Rattle.payload.specs.Valid.{ValidValue, Valid, IsMap, origin, routerKey, aspa}
 use Rattle.payload.proofs.Closed.{apply-map}
-use Rattle.message.specs.Record.{goodRecord}
 use Rattle.message.specs.Hear.{Told}
-use Rattle.message.specs.Take.{Taken, all, misfit, asItem, take}
+use Rattle.message.specs.Take.{misfit, asItem, take}
 use Rattle.message.proofs.Taking.{one-lookup}
+use Rattle.message.proofs.Telling.{RouterRecord, anOrigin, aRouterKey, not-aspa, valid-record, Tells, tells-map}
 use Rattle.heard.specs.Place.{typeAt, keyAt, announcesAt, toldAt, Sized, Payload, v4, v6, key}
 use Rattle.judge.specs.Walk.{isSome, has}
 
 -- ---- the record
 
--- an origin's key or a router key's
-pub data RouterRecord : Bytes → Type 0 where
-  anOrigin : (k : Bytes) → RouterRecord (1 ∷ k)
-  aRouterKey : (k : Bytes) → RouterRecord (2 ∷ k)
-
 module _ (s : Bytes) (at : ℕ) where
-  record-kind : Sized s at → RouterRecord (keyAt s at)
+  pub record-kind : Sized s at → RouterRecord (keyAt s at)
   unfolding keyAt
   record-kind (v4 t n) = rw t (anOrigin _)
   record-kind (v6 t n) = rw t (anOrigin _)
   record-kind (key t n m) = rw t (aRouterKey _)
-
-valid-record : {k : Bytes} → RouterRecord k → goodRecord k ≡ true → ValidValue k []
-unfolding goodBody tagOf
-valid-record (anOrigin k) h = origin h
-valid-record (aRouterKey k) h = routerKey h
-
--- no ASPA's key is a router record
-pub not-aspa : {k : Bytes} → RouterRecord k → ¬ (getD k 0 0 ≡ 3)
-not-aspa (anOrigin k) e = omega arith
-not-aspa (aRouterKey k) e = omega arith
 
 module _ (s : Bytes) (at : ℕ) (p : Payload s at) where
   pub told-record : RouterRecord (keyAt s at)
@@ -60,16 +40,8 @@ module _ (s : Bytes) (at : ℕ) (p : Payload s at) where
   pub told-value : ValidValue (keyAt s at) []
   told-value = valid-record told-record (p .good)
 
-  pub told-change : ValidChange (keyAt s at) (cond (announcesAt s at) (announce []) (withdraw []))
-  told-change = go (announcesAt s at)
-    where
-      go : (f : Bool) → ValidChange (keyAt s at) (cond f (announce []) (withdraw []))
-      go true = announced told-value
-      go false = withdrawn told-value
-
-  -- the message as a delta of one item
-  pub told-map : IsMap Delta (asItem (toldAt s at) ∷ [])
-  told-map = record { sorted = (tt, tt); valid = (told-change, tt) }
+  pub told-tells : Tells (toldAt s at)
+  told-tells = record { router = told-record; value = told-value; flag = announcesAt s at; is = refl }
 
 -- ---- what stands at it
 
@@ -113,7 +85,7 @@ module _ (A : change.Snapshot Bytes Bytes) (s : Bytes) (x : ℕ) where
   after = apply bytes A (asItem (toldAt s x) ∷ [])
 
   pub after-map : Payload s x → IsMap Snapshot A → IsMap Snapshot after
-  after-map p m = apply-map A (asItem (toldAt s x) ∷ []) m (told-map s x p)
+  after-map p m = apply-map A (asItem (toldAt s x) ∷ []) m (tells-map (toldAt s x) (told-tells s x p))
 
   pub after-other : Sorted bytes A → (k : Bytes) → ¬ (k ≡ keyAt s x) → lookup bytes k after ≡ lookup bytes k A
   after-other t k n = rw (one-lookup A (asItem (toldAt s x)) t k) (go (bytes k (keyAt s x)) refl)

@@ -24,6 +24,7 @@ use Rattle.message.proofs.Taking.{take-none, one-lookup, one-sorted}
 use Rattle.heard.specs.Place.{keyAt, sizeAt, announcesAt, toldAt, Payload, Messages, done, more}
 use Rattle.batch.specs.Next.{insert, sorted}
 use Rattle.judge.specs.Walk.{follows, settle, settled}
+use Rattle.judge.specs.Promise.{later}
 use Rattle.judge.proofs.Sorting.{most-apart, turned, Side, side, front, behind, Past, Ascends, InOrder, insert-end, insert-front, insert-behind, messages-past, sorted-all, first-past, sorted-end, sorted-more, sorted-order, Under, nothing, below, follows-same, follows-apart, under-apart}
 use Rattle.judge.proofs.Records.{wrong, after, after-map, take-right, take-wrong}
 
@@ -33,11 +34,6 @@ Said = Option (Change Bytes)
 -- what a message says at a key
 abbrev saysAt : Bytes → Bytes → ℕ → Said → Said
 saysAt s k x rest = own (bytes k (keyAt s x)) (some (toldAt s x .change)) rest
-
--- the later of two words on a key
-abbrev later : Said → Said → Said
-later (some c) o = some c
-later none o = o
 
 later-none : (o : Said) → later o none ≡ o
 later-none none = refl
@@ -174,7 +170,7 @@ pub misfit≢all : {X : Type 0} {t : Told} {B : change.Snapshot Bytes Bytes} →
 misfit≢all e = absurd (let z : _≡_ {A = ℕ} 0 1 = cc in omega arith)
 
 -- a change, then another
-two-changes : (o : Option Bytes) (c d : Said) → applyAt (applyAt o c) d ≡ applyAt o (later d c)
+pub two-changes : (o : Option Bytes) (c d : Said) → applyAt (applyAt o c) d ≡ applyAt o (later d c)
 two-changes o c none = refl
 two-changes o c (some d) = go d
   where
