@@ -4,6 +4,7 @@ use mathlib.Core.Path.{_≡_, refl, sym, ap, _∙_}
 use mathlib.Core.List.{List, [], _∷_, map}
 use mathlib.Core.Option.{Option, none, some}
 use mathlib.Core.Bool.{Bool, true, false, not, cond}
+use native.Mathlib.Omega.{arith}
 use lib.ListN.{getD}
 use Rattle.order.specs.declared.Ordering.{Ordering}
 use Rattle.order.specs.declared.Ordering.the-variants.{Less, Equal, Greater}
@@ -17,6 +18,7 @@ use Rattle.change.specs.Difference.{diff}
 use Rattle.change.specs.Application.{applyAt, apply, fits, fitsAt, Applies}
 use Rattle.change.proofs.Whole.{apply-sorted, apply-lookup, diff-sorted, diff-lookup, applies, yields}
 use Rattle.field.specs.declared.tag.Form.the-variants.{Snapshot}
+use Rattle.field.specs.Cells as run
 use Rattle.payload.specs.Content.{Bytes}
 use Rattle.payload.specs.Valid.{IsMap}
 use Rattle.payload.specs.Payload.{encode, items, changes}
@@ -78,3 +80,120 @@ no-word k (t ∷ ts) h e = rw (no-word k ts (h .1) e) (go (bytes k (t .key)) ref
     go Less c = refl
     go Equal c = absurd (not-aspa (h .0 .router) (rw (strings .same k (t .key) c) at e))
     go Greater c = refl
+
+-- ---- accepted as written
+
+module _ {A : Type 0} (v : Version) where
+  unspoken-kept : (D : List (Item Bytes A)) → unspoken v D ≡ kept (λ (kind : ℕ). not (speaks v kind)) D
+  unfolding unspoken
+  unspoken-kept [] = refl
+  unspoken-kept (x ∷ D) = go (speaks v (kindIn x)) (unspoken-kept D)
+    where
+      go : (b : Bool) → unspoken v D ≡ kept (λ (kind : ℕ). not (speaks v kind)) D →
+          cond b (unspoken v D) (x ∷ unspoken v D) ≡ cond (not b) (x ∷ kept (λ (kind : ℕ). not (speaks v kind)) D) (kept (λ (kind : ℕ). not (speaks v kind)) D)
+      go true i = i
+      go false i = ap (λ (r : List (Item Bytes A)). x ∷ r) i
+
+  unspoken-lookup : (k : Bytes) (D : List (Item Bytes A)) → lookup bytes k (unspoken v D) ≡ cond (not (speaks v (getD k 0 0))) (lookup bytes k D) none
+  unspoken-lookup k D = rw (unspoken-kept D) (kept-lookup (λ (kind : ℕ). not (speaks v kind)) k D)
+
+  unspoken-sorted : (D : List (Item Bytes A)) → Sorted bytes D → Sorted bytes (unspoken v D)
+  unspoken-sorted D s = rw (unspoken-kept D) (kept-sorted (λ (kind : ℕ). not (speaks v kind)) D s)
+
+module _ (v : Version) (A C : change.Snapshot Bytes Bytes) (s : Sorted bytes A) (t : Sorted bytes C) where
+  abbrev D : change.Delta Bytes Bytes
+  D = spoken v (diff bytes bytes A C)
+
+  D-sorted : Sorted bytes D
+  D-sorted = spoken-sorted v (diff bytes bytes A C) (diff-sorted strings strings A C s t)
+
+  D-applies : Applies bytes bytes A D
+  D-applies k = rw (spoken-lookup v k (diff bytes bytes A C)) (go (speaks v (getD k 0 0)))
+    where
+      go : (b : Bool) → fitsAt bytes (lookup bytes k A) (cond b (lookup bytes k (diff bytes bytes A C)) none) ≡ true
+      go true = applies strings strings A C s t k
+      go false = refl
+
+  -- what the spoken part of a difference leaves: the new where it speaks, else the old
+  onward-lookup : (k : Bytes) → lookup bytes k (apply bytes A D) ≡ cond (speaks v (getD k 0 0)) (lookup bytes k C) (lookup bytes k A)
+  onward-lookup k =
+      rw (apply-lookup strings strings A D s D-sorted k, spoken-lookup v k (diff bytes bytes A C)) (go (speaks v (getD k 0 0)))
+    where
+      whole : applyAt (lookup bytes k A) (lookup bytes k (diff bytes bytes A C)) ≡ lookup bytes k C
+      whole = sym (apply-lookup strings strings A (diff bytes bytes A C) s (diff-sorted strings strings A C s t) k) ∙ ap (lookup bytes k) (yields strings strings A C s t)
+
+      go : (b : Bool) → applyAt (lookup bytes k A) (cond b (lookup bytes k (diff bytes bytes A C)) none) ≡ cond b (lookup bytes k C) (lookup bytes k A)
+      go true = whole
+      go false = refl
+
+  onward-sorted : Sorted bytes (apply bytes A D)
+  onward-sorted = apply-sorted strings strings A D s D-sorted
+
+  pub onward-spoken : spoken v (apply bytes A D) ≡ spoken v C
+  onward-spoken =
+      ext strings _ _ (spoken-sorted v (apply bytes A D) onward-sorted) (spoken-sorted v C t)
+      (λ k. rw (spoken-lookup v k (apply bytes A D), spoken-lookup v k C, onward-lookup k) (go (speaks v (getD k 0 0)) (lookup bytes k C) (lookup bytes k A)))
+    where
+      go : (b : Bool) (c a : Option Bytes) → cond b (cond b c a) none ≡ cond b c none
+      go true c a = refl
+      go false c a = refl
+
+  pub onward-unspoken : unspoken v (apply bytes A D) ≡ unspoken v A
+  onward-unspoken =
+      ext strings _ _ (unspoken-sorted v (apply bytes A D) onward-sorted) (unspoken-sorted v A s)
+      (λ k. rw (unspoken-lookup v k (apply bytes A D), unspoken-lookup v k A, onward-lookup k) (go (speaks v (getD k 0 0)) (lookup bytes k C) (lookup bytes k A)))
+    where
+      go : (b : Bool) (c a : Option Bytes) → cond (not b) (cond b c a) none ≡ cond (not b) a none
+      go true c a = refl
+      go false c a = refl
+
+  -- messages that say it are all taken
+  pub onward-taken : (ts : List Told) → map asItem ts ≡ D → take A ts ≡ all (apply bytes A D)
+  onward-taken ts e =
+      take-applies A ts s (rw e D-sorted) (rw e D-applies) ∙ ap (λ (d : change.Delta Bytes Bytes). all (apply bytes A d)) e
+
+-- from nothing, it leaves what it says
+pub onward-full : (v : Version) (C : change.Snapshot Bytes Bytes) → Sorted bytes C → apply bytes [] (spoken v (diff bytes bytes [] C)) ≡ spoken v C
+onward-full v C t =
+    ext strings _ _ (onward-sorted v [] C tt t) (spoken-sorted v C t)
+    (λ k. onward-lookup v [] C tt t k ∙ sym (spoken-lookup v k C))
+
+-- ---- the promise
+
+empty-good : GoodSnapshot []
+unfolding encode run.encode
+empty-good = record { octets = λ i. omega arith; fine = faithful Snapshot .good-bytes [] (record { sorted = tt; valid = tt }) }
+
+pub promise : (v : Version) → Promise v
+promise v =
+    record {
+      good = λ snapshot messages B g e. faithful Snapshot .good-bytes B (result snapshot messages B g e);
+      says = λ snapshot messages B g e. faithful Snapshot .map-back B (result snapshot messages B g e);
+      last-word = λ snapshot messages B g e k. taken-word k (items snapshot) B (hear v messages .told) (good-map snapshot g .sorted) e;
+      aspas-stay = λ snapshot messages B g e k z.
+          taken-word k (items snapshot) B (hear v messages .told) (good-map snapshot g .sorted) e
+          ∙ ap (applyAt (lookup bytes k (items snapshot))) (no-word k (hear v messages .told) (hear-tells v messages) z);
+      delta-taken = onward;
+      full-taken = full;
+    }
+  where
+    result : (snapshot messages : Bytes) (B : change.Snapshot Bytes Bytes) → GoodSnapshot snapshot → Leave v snapshot messages B → IsMap Snapshot B
+    result snapshot messages B g e = taken-map (items snapshot) B (hear v messages .told) (hear-tells v messages) (good-map snapshot g) e
+
+    onward : (base current messages : Bytes) → GoodSnapshot base → GoodSnapshot current → Say v messages (changes (differenceOf base current)) → LeadOn v base current messages
+    onward base current messages g h e =
+        let s = good-map base g .sorted in
+        let t = good-map current h .sorted in
+        record {
+          result = apply bytes (items base) (spoken v (diff bytes bytes (items base) (items current)));
+          leave = onward-taken v (items base) (items current) s t (hear v messages .told) (e ∙ ap (spoken v) (difference-says base current g h));
+          as-current = onward-spoken v (items base) (items current) s t;
+          as-base = onward-unspoken v (items base) (items current) s t;
+        }
+
+    full : (current messages : Bytes) → GoodSnapshot current → Say v messages (changes (differenceOf [] current)) → Leave v [] messages (spoken v (items current))
+    full current messages h e =
+        let z : items [] ≡ [] = entries-end Snapshot in
+        let t = good-map current h .sorted in
+        let d : changes (differenceOf [] current) ≡ diff bytes bytes [] (items current) = difference-says [] current empty-good h ∙ ap (λ (A : change.Snapshot Bytes Bytes). diff bytes bytes A (items current)) z in
+        rw z (onward-taken v [] (items current) tt t (hear v messages .told) (e ∙ ap (spoken v) d) ∙ ap all (onward-full v (items current) t))
