@@ -4,3 +4,4 @@ pub mod Faults
 pub mod Settled
 pub mod Lengths
 pub mod Results
+pub mod Deciding
