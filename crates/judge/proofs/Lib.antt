@@ -5,3 +5,4 @@ pub mod Settled
 pub mod Lengths
 pub mod Results
 pub mod Deciding
+pub mod Examples

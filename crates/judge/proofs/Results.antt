@@ -147,6 +147,18 @@ module _ (v : Version) (A C : change.Snapshot Bytes Bytes) (s : Sorted bytes A) 
       go true c a = refl
       go false c a = refl
 
+  -- all of the new, if both have the same beside
+  pub onward-whole : unspoken v A ≡ unspoken v C → apply bytes A D ≡ C
+  onward-whole e =
+      ext strings _ _ onward-sorted t (λ k. onward-lookup k ∙ go k (speaks v (getD k 0 0)) refl)
+    where
+      beside : (k : Bytes) → cond (not (speaks v (getD k 0 0))) (lookup bytes k A) none ≡ cond (not (speaks v (getD k 0 0))) (lookup bytes k C) none
+      beside k = sym (unspoken-lookup v k A) ∙ ap (lookup bytes k) e ∙ unspoken-lookup v k C
+
+      go : (k : Bytes) (b : Bool) → speaks v (getD k 0 0) ≡ b → cond b (lookup bytes k C) (lookup bytes k A) ≡ lookup bytes k C
+      go k true q = refl
+      go k false q = rw q at (beside k)
+
   -- messages that say it are all taken
   pub onward-taken : (ts : List Told) → map asItem ts ≡ D → take A ts ≡ all (apply bytes A D)
   onward-taken ts e =
@@ -189,6 +201,7 @@ promise v =
           leave = onward-taken v (items base) (items current) s t (hear v messages .told) (e ∙ ap (spoken v) (difference-says base current g h));
           as-current = onward-spoken v (items base) (items current) s t;
           as-base = onward-unspoken v (items base) (items current) s t;
+          whole = λ q. ap (encode Snapshot) (onward-whole v (items base) (items current) s t q) ∙ faithful Snapshot .bytes-back current (h .octets) (h .fine);
         }
 
     full : (current messages : Bytes) → GoodSnapshot current → Say v messages (changes (differenceOf [] current)) → Leave v [] messages (spoken v (items current))

@@ -52,6 +52,8 @@ pub record LeadOn (v : Version) (base current messages : Bytes) : Type 0 where
   pub leave : Leave v base messages result
   pub as-current : spoken v result ≡ spoken v (items current)
   pub as-base : unspoken v result ≡ unspoken v (items base)
+  -- so where base and current agree in these, they leave the current one, byte for byte
+  pub whole : unspoken v (items base) ≡ unspoken v (items current) → encode Snapshot result ≡ current
 
 -- whoever made the messages, in any version
 pub record Promise (v : Version) : Type 0 where
