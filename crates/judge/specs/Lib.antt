@@ -1,6 +1,7 @@
 pub mod Walk
 -- what `judge` answers
 pub mod Answer
+pub mod Promise
 -- what the contracts of inner functions say
 pub mod Stub
 pub mod State
