@@ -38,6 +38,12 @@ pub record HeardIs (v : Version) (s : Bytes) (r : Heard) : Type 0 where
   pub more : r .more ≡ sumFields s true xs
   pub less : r .less ≡ sumFields s false xs
 
+-- 0 or a payload message
+pub data Bound (s : Bytes) (x : ℕ) : Type 0 where
+  none : x ≡ 0 → Bound s x
+  one : Payload s x → Bound s x
+
 pub record Told (s : Bytes) (stop low : ℕ) : Type 0 where
   pub xs : List ℕ
   pub messages : Messages s 8 xs stop
+  pub bound : Bound s low

@@ -1,7 +1,7 @@
 // Messages in message order against a snapshot: the first of the answer that does not fit.
 use crate::find::find;
-use crate::stub::announces;
-use crate::stub::same_record;
+use heard::place::announces;
+use heard::compare::same_record;
 ghost use mathlib.Core.Path.{_≡_};
 ghost use mathlib.Core.Bool.{cond, not};
 ghost use lib.ListN.{take};

@@ -1,5 +1,4 @@
 // A message's record sought in the snapshot.
-use crate::stub::front_at;
 use crate::stub::put_record;
 use field::key::Key;
 use field::key::key_compare;
@@ -8,6 +7,7 @@ use item::reading::Reading;
 use item::reading::read_at;
 use order::Ordering;
 use walk::seek::seek;
+use heard::front::front_at;
 ghost use mathlib.Core.Path.{_≡_};
 ghost use Rattle.field.specs.Places.{keyIn};
 ghost use Rattle.item.specs.declared.reading.Reading.the-variants.{Announced};

@@ -2,7 +2,6 @@
 use crate::faults::least_fault;
 use crate::put::put;
 use crate::stub::Stop;
-use crate::stub::announces;
 use crate::stub::hear;
 use delta::admit::Admitted;
 use delta::admit::admit_one;
@@ -13,6 +12,7 @@ use message::version::Version;
 use serial::Serial;
 use serial::Session;
 use serial::timing::Timing;
+use heard::place::announces;
 ghost use mathlib.Core.Path.{_≡_};
 ghost use Prim.Native.Nat.{_+_, _-_, _≤_};
 ghost use lib.ListN.{length};

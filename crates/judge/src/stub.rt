@@ -8,10 +8,7 @@ ghost use mathlib.Core.Path.{_≡_};
 ghost use Prim.Native.Nat.{_^_, _<_};
 ghost use lib.ListN.{length};
 ghost use lib.Seq.{sets};
-ghost use Rattle.order.specs.Comparison.{bytes};
-ghost use Rattle.change.specs.Application.{isEqual};
-ghost use Rattle.item.specs.Front.{frontKey};
-ghost use Rattle.heard.specs.Place.{Payload, keyAt, announcesAt};
+ghost use Rattle.heard.specs.Place.{Payload, keyAt};
 ghost use Rattle.batch.specs.Next.{NextIs};
 ghost use Rattle.judge.specs.Stub.{recordField, HeardIs, Told};
 
@@ -27,27 +24,6 @@ pub struct Heard {
     pub withdrawn: usize,
     pub more: usize,
     pub less: usize,
-}
-
-pub fn announces(s: &[u8], at: usize) -> bool
-    requires { ⌜ Payload (now s) at ⌝ }
-    ensures { λ r. ⌜ r ≡ announcesAt (now (s .entry)) at ⌝ }
-{
-    false
-}
-
-pub fn same_record(s: &[u8], x: usize, y: usize) -> bool
-    requires { ⌜ Payload (now s) x × Payload (now s) y ⌝ }
-    ensures { λ r. ⌜ r ≡ isEqual (bytes (keyAt (now (s .entry)) x) (keyAt (now (s .entry)) y)) ⌝ }
-{
-    false
-}
-
-pub fn front_at(s: &[u8], at: usize) -> usize
-    requires { ⌜ Payload (now s) at ⌝ }
-    ensures { λ r. ⌜ r ≡ frontKey (keyAt (now (s .entry)) at) ⌝ }
-{
-    0
 }
 
 pub fn put_record(s: &[u8], at: usize, out: &mut [u8], i: usize) -> usize
@@ -71,7 +47,7 @@ pub fn hear(version: Version, s: &[u8]) -> Heard
 }
 
 pub fn next(s: &[u8], stop: usize, low: usize, buf: &mut [usize; 6000]) -> Batch
-    requires { ⌜ Told (now s) stop low ⌝ }
+    requires { ⌜ Told (now s) stop low × (length (now buf) ≡ 6000) ⌝ }
     ensures { λ r. ⌜ NextIs (now (s .entry)) stop low (now (buf .exit)) r × (length (now (buf .exit)) ≡ 6000) ⌝ }
 {
     Batch { n: 0, over: true }

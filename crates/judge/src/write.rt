@@ -1,10 +1,10 @@
 // Messages in message order over a snapshot: what they leave of it, written.
 use crate::check::is_next;
 use crate::find::find;
-use crate::stub::announces;
 use crate::stub::put_record;
 use item::copy::copy;
 use item::place::Part;
+use heard::place::announces;
 ghost use mathlib.Core.Path.{_≡_};
 ghost use mathlib.Core.List.{_∷_, []};
 ghost use Prim.Native.Nat.{_+_};
