@@ -1,0 +1,3 @@
+pub mod Precede
+pub mod Sorting
+pub mod Keeping
