@@ -286,7 +286,7 @@ part-split a from at to h k =
 
 -- a record's field in an array, from its start on
 module _ (k : Bytes) (n₀ n : Bytes) (room : length (recordField k) ≤ length n₀) (e : n ≡ sets n₀ 0 (recordField k)) where
-  laid : n ≡ recordField k ++ drop (length (recordField k)) n₀
+  pub laid : n ≡ recordField k ++ drop (length (recordField k)) n₀
   laid = e ∙ sets-eq (recordField k) n₀ 0 (omega (arith, room)) ∙ ap (λ (n : ℕ). recordField k ++ drop n n₀) (zero-add (length (recordField k)))
 
   pub named : k ≡ getD k 0 0 ∷ drop 1 k → (size : ℕ) → size ≡ length (recordField k) → keyIn n (record { kind = getD n 0 0; from = 3; to = size }) ≡ k
@@ -294,17 +294,17 @@ module _ (k : Bytes) (n₀ n : Bytes) (room : length (recordField k) ≤ length 
   named c size z =
       rw (laid, z) (ap (λ (l : Bytes). getD k 0 0 ∷ l) (take-at (drop 1 k) (drop (length (recordField k)) n₀) (length (recordField k) - 3) (omega arith)) ∙ sym c)
 
-module _ (a : Bytes) (from : ℕ) (s : Bytes) (x : ℕ) (p : Payload s x) where
-  record-short : length (recordField (keyAt s x)) ≤ 1056
-  unfolding run.field
-  record-short = let h = key-short s x p in omega (arith, h, length-drop 1 (keyAt s x))
+pub record-short : (s : Bytes) (x : ℕ) → Payload s x → length (recordField (keyAt s x)) ≤ 1056
+unfolding run.field
+record-short s x p = let h = key-short s x p in omega (arith, h, length-drop 1 (keyAt s x))
 
+module _ (a : Bytes) (from : ℕ) (s : Bytes) (x : ℕ) (p : Payload s x) where
   pub find-is : ((i : ℕ) → Fits w8 (getD s i 0)) → ((i : ℕ) → Fits w8 (getD a i 0)) → Ready Announced a from
       → (n₀ n : Bytes) → length n₀ ≡ 1056 → (size : ℕ) → size ≡ length (recordField (keyAt s x)) → n ≡ sets n₀ 0 (recordField (keyAt s x))
       → (b : ℕ) → b ≡ frontKey (keyAt s x) → (at count : ℕ) → Seeks a from b at count
       → (r : Found) → Finds a at (keyIn n (record { kind = getD n 0 0; from = 3; to = size })) r → Finds a from (keyAt s x) r
   find-is os oa g n₀ n l size z e b f at count k r h =
-      let q : keyIn n (record { kind = getD n 0 0; from = 3; to = size }) ≡ keyAt s x = named (keyAt s x) n₀ n (rw l record-short) e (key-cons s x) size z in
+      let q : keyIn n (record { kind = getD n 0 0; from = 3; to = size }) ≡ keyAt s x = named (keyAt s x) n₀ n (rw l (record-short s x p)) e (key-cons s x) size z in
       joined (subst (λ (y : Bytes). Finds a at y r) q h)
     where
       first-low : (l : S) → All (λ (y : Item Bytes Bytes). frontKey (y .key) < b) l → All (λ (y : Item Bytes Bytes). bytes (y .key) (keyAt s x) ≡ Less) l

@@ -8,3 +8,8 @@ pub mod Deciding
 pub mod Examples
 pub mod Finding
 pub mod Checking
+pub mod Leaving
+pub mod Faulting
+pub mod Writing
+pub mod Putting
+pub mod Judging

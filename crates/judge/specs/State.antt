@@ -131,6 +131,10 @@ pub record Fitting (a s : Bytes) (w : Write) (xs : List ℕ) (o : Bytes) : Type 
   pub others : List ℕ
   pub room : w .end + length (leftOver a s w (xs ++ others)) ≤ length o
 
+-- the same where no message is still to come
+pub record Ending (a s : Bytes) (w : Write) (o : Bytes) : Type 0 where
+  pub room : w .end + length (leftOver a s w []) ≤ length o
+
 -- what was left is what was written and what is left now
 pub record Writes (a s : Bytes) (w : Write) (xs : List ℕ) (o o′ : Bytes) (r : Write) : Type 0 where
   pub written : Written a s r

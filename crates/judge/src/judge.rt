@@ -1,5 +1,5 @@
 // An answer of another cache, judged.
-use crate::faults::least_fault;
+use crate::least::least_fault;
 use crate::put::put;
 use crate::stub::Stop;
 use crate::stub::hear;
@@ -77,7 +77,7 @@ fn put_all(
     buf: &mut [usize; 6000],
     out: &mut [u8],
 ) -> Length
-    requires { ⌜ Given (now snapshot) (now s) stop × Balanced (now snapshot) (now s) stop more less ⌝ }
+    requires { ⌜ Given (now snapshot) (now s) stop × (Balanced (now snapshot) (now s) stop more less × (length (now buf) ≡ 6000)) ⌝ }
     ensures { λ r. ⌜ (r ≡ lengthOf (length (leftAll (now (snapshot .entry)) (now (s .entry)) stop)) (length (now (out .entry)))) × (now (out .exit) ≡ outAfter Yes (leftAll (now (snapshot .entry)) (now (s .entry)) stop) (now (out .entry))) ⌝ }
 {
     let Length::Within(len) = sized(snapshot.len(), more, less, out.len()) else {

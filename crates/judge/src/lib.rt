@@ -1,8 +1,8 @@
 // What another cache sends, judged against our copy of the snapshot that it leads on from.
 pub mod check;
-pub mod faults;
 pub mod find;
 pub mod judge;
+pub mod least;
 pub mod put;
 pub mod stub;
 pub mod write;

@@ -6,13 +6,14 @@ use crate::write::write_batch;
 use item::copy::copy;
 use item::place::Part;
 ghost use mathlib.Core.Path.{_≡_};
+ghost use lib.ListN.{length};
 ghost use lib.Seq.{sets};
 ghost use mathlib.Core.List.{[]};
-ghost use Rattle.judge.specs.State.{Given, RoomFor, leftAll, leftOver, Written, Fitting};
+ghost use Rattle.judge.specs.State.{Given, RoomFor, leftAll, leftOver, Written, Ending};
 
 // Where all is told: the last record, and the rest of the snapshot.
 fn put_rest(snapshot: &[u8], s: &[u8], out: &mut [u8], w: Write)
-    requires { ⌜ Written (now snapshot) (now s) w × Fitting (now snapshot) (now s) w [] (now out) ⌝ }
+    requires { ⌜ Written (now snapshot) (now s) w × Ending (now snapshot) (now s) w (now out) ⌝ }
     ensures { λ r. ⌜ now (out .exit) ≡ sets (now (out .entry)) (w .end) (leftOver (now (snapshot .entry)) (now (s .entry)) w []) ⌝ }
 {
     let end = settle(s, w.last, out, w.end);
@@ -29,7 +30,7 @@ fn put_rest(snapshot: &[u8], s: &[u8], out: &mut [u8], w: Write)
 
 // All of the messages.
 pub(crate) fn put(snapshot: &[u8], s: &[u8], stop: usize, buf: &mut [usize; 6000], out: &mut [u8])
-    requires { ⌜ Given (now snapshot) (now s) stop × RoomFor (now snapshot) (now s) stop (now out) ⌝ }
+    requires { ⌜ Given (now snapshot) (now s) stop × (RoomFor (now snapshot) (now s) stop (now out) × (length (now buf) ≡ 6000)) ⌝ }
     ensures { λ r. ⌜ now (out .exit) ≡ sets (now (out .entry)) 0 (leftAll (now (snapshot .entry)) (now (s .entry)) stop) ⌝ }
 {
     let mut w = Write {
