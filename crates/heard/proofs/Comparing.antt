@@ -47,7 +47,7 @@ lengths-in w a b c d e h k l =
     rw (f, e) (omega arith)
 
 module _ (s : Bytes) (at : ℕ) (o : Octets s) where
-  lengths-at : wordAt s (at + 8) / 1_099_511_627_776 % 65_536 ≡ byteAt s at 9 * 256 + byteAt s at 10
+  pub lengths-at : wordAt s (at + 8) / 1_099_511_627_776 % 65_536 ≡ byteAt s at 9 * 256 + byteAt s at 10
   lengths-at = lengths-in (wordAt s (at + 8)) (byteAt s at 8) (byteAt s at 9) (byteAt s at 10) (byteAt s at 11) (high-half s o (at + 8) ∙ four-from s at 8) (o (at + 9) .fits) (o (at + 10) .fits) (o (at + 11) .fits)
 
   module _ (f : Of s 4 at) where
@@ -66,7 +66,7 @@ module _ (s : Bytes) (at : ℕ) (o : Octets s) where
         let k : wordAt (fourKey (byteAt s at)) 16 ≡ (byteAt s at 9 * 256 + byteAt s at 10) * 4_294_967_296 + four (byteAt s at 16) (byteAt s at 17) (byteAt s at 18) (byteAt s at 19) = omega arith in
         rw (d, e, four-key s at (f .type) (least s at (f .payload)), k, lengths-at, g)
 
-  six-long : Of s 6 at → at + 32 ≤ length s
+  pub six-long : Of s 6 at → at + 32 ≤ length s
   six-long f = long s at (f .payload) (λ h. let z : _≡_ {A = ℕ} 4 6 = sym h ∙ f .type in omega arith)
 
   module _ (f : Of s 6 at) where
@@ -97,7 +97,7 @@ pub ruleset lasts = (four-second, four-third, four-last-is, six-second, six-thir
 
 -- ---- keys are bytes
 
-octets-cons : (x : ℕ) (l : Bytes) → x < 256 → Octets l → Octets (x ∷ l)
+pub octets-cons : (x : ℕ) (l : Bytes) → x < 256 → Octets l → Octets (x ∷ l)
 octets-cons x l h o zero = record { fits = h }
 octets-cons x l h o (suc i) = o i
 

@@ -1,3 +1,5 @@
 pub mod Place
+pub mod Field
 -- what inner functions ask
 pub mod Compare
+pub mod Put

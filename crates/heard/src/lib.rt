@@ -2,3 +2,4 @@
 pub mod compare;
 pub mod front;
 pub mod place;
+pub mod put;
