@@ -1,3 +1,5 @@
 pub mod Precede
 pub mod Sorting
+pub mod Settling
 pub mod Keeping
+pub mod Collecting
