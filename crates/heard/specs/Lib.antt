@@ -1,1 +1,3 @@
 pub mod Place
+-- what inner functions ask
+pub mod Compare
