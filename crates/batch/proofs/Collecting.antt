@@ -182,8 +182,14 @@ module _ (s : Bytes) (stop low : ℕ) (l : List ℕ) (p : Part) (at : ℕ) (t : 
 
         pushed : sorted s (take (p .n + 1) (set l (p .n) at)) ≡ sorted s (only (isWanted s low (p .top)) (t .ps ++ (at ∷ [])))
         pushed =
-            rw (add-one (p .n), take-suc-set l (p .n) at collect-in, only-more (isWanted s low (p .top)) (t .ps) at (sym f ∙ g),
-                sorted-more s (take (p .n) l) at, sorted-more s (only (isWanted s low (p .top)) (t .ps)) at, t .is)
+            rw (
+              add-one (p .n),
+              take-suc-set l (p .n) at collect-in,
+              only-more (isWanted s low (p .top)) (t .ps) at (sym f ∙ g),
+              sorted-more s (take (p .n) l) at,
+              sorted-more s (only (isWanted s low (p .top)) (t .ps)) at,
+              t .is,
+            )
 
         pub collect-push : (m : List ℕ) (q : Part) → Trimmed s (set l (p .n) at) (p .n + 1) (p .top) m q → Collecting s stop low m q (at + size)
         collect-push m q (kept a b c) = rw (b, c) (record {

@@ -110,10 +110,10 @@ module _ (s : Bytes) (l₀ : List ℕ) (i gap x : ℕ) (l : List ℕ) (j : ℕ) 
       good = t .good;
       same = ap (sorted s) swap ∙ sorted-swap s (set l j x) j (j - gap) (rw (length-set l j x) settle-at) (rw (length-set l j x) settle-below) ∙ t .same;
       order = λ d c. climb-step s (λ (m : ℕ). getD (set l j x) m 0) (λ (m : ℕ). getD (set (set l j (getD l (j - gap) 0)) (j - gap) x) m 0) i j (j - gap) (omega arith) (t .order d c) (t .place)
-        (getD-set-same (set l j (getD l (j - gap) 0)) (j - gap) x 0 (rw (length-set l j (getD l (j - gap) 0)) settle-below) ∙ sym here)
-        (getD-set-other (set l j (getD l (j - gap) 0)) (j - gap) j x 0 (λ w. apart (sym w)) ∙ getD-set-same l j (getD l (j - gap) 0) 0 settle-at ∙ sym there)
-        (λ m p q. getD-set-other (set l j (getD l (j - gap) 0)) (j - gap) m x 0 q ∙ getD-set-other l j m (getD l (j - gap) 0) 0 p ∙ sym (getD-set-other l j m x 0 p))
-        (rw (here, there) e);
+          (getD-set-same (set l j (getD l (j - gap) 0)) (j - gap) x 0 (rw (length-set l j (getD l (j - gap) 0)) settle-below) ∙ sym here)
+          (getD-set-other (set l j (getD l (j - gap) 0)) (j - gap) j x 0 (λ w. apart (sym w)) ∙ getD-set-same l j (getD l (j - gap) 0) 0 settle-at ∙ sym there)
+          (λ m p q. getD-set-other (set l j (getD l (j - gap) 0)) (j - gap) m x 0 q ∙ getD-set-other l j m (getD l (j - gap) 0) 0 p ∙ sym (getD-set-other l j m x 0 p))
+          (rw (here, there) e);
     }
       where
         swap : set (set l j (getD l (j - gap) 0)) (j - gap) x ≡ set (set (set l j x) j (getD (set l j x) (j - gap) 0)) (j - gap) (getD (set l j x) j 0)

@@ -1,7 +1,7 @@
 // Walking the messages, with the least of those that are left in the buffer.
 use crate::sort::sort;
-use crate::stub::is_before;
-use crate::stub::size_at;
+use heard::compare::is_before;
+use heard::place::size_at;
 ghost use mathlib.Core.Path.{_≡_};
 ghost use lib.ListN.{length};
 ghost use Rattle.heard.specs.Place.{Payload};
@@ -57,7 +57,10 @@ fn trim(s: &[u8], buf: &mut [usize; 6000], n: usize, top: usize) -> Part
         return Part { n: n, top: top };
     }
     sort(s, &mut buf[..]);
-    Part { n: 4500, top: buf[4499] }
+    Part {
+        n: 4500,
+        top: buf[4499],
+    }
 }
 
 // The least messages up to `stop` that are behind `low`.

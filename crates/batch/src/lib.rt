@@ -2,4 +2,3 @@
 pub mod collect;
 pub mod next;
 pub mod sort;
-pub mod stub;

@@ -21,5 +21,8 @@ pub fn next(s: &[u8], stop: usize, low: usize, buf: &mut [usize; 6000]) -> Batch
     let p = collect(s, stop, low, buf);
     let n = p.n;
     sort_first(s, &mut buf[..], n);
-    Batch { n: n, over: p.top == 0 }
+    Batch {
+        n: n,
+        over: p.top == 0,
+    }
 }

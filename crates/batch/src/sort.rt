@@ -1,5 +1,5 @@
 // Sorting offsets into message order.
-use crate::stub::is_before;
+use heard::compare::is_before;
 ghost use mathlib.Core.Path.{_≡_};
 ghost use Prim.Native.Nat.{_+_, _≤_, _<_};
 ghost use lib.ListN.{length, take, drop};
