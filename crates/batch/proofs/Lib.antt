@@ -3,3 +3,4 @@ pub mod Sorting
 pub mod Settling
 pub mod Keeping
 pub mod Collecting
+pub mod Leaving
