@@ -241,6 +241,27 @@ module _ (s : Bytes) where
   upto-take zero (up {x} {xs} a b) h = rw (never-self s x) (ap (λ (r : List ℕ). x ∷ r) (only-none (λ (y : ℕ). not (precedes s x y)) (all-weak (λ y q. ap not q) a)))
   upto-take (suc k) (up {x} {xs} a b) h = rw (precede-turn s x (getD xs k 0) (all-at a k (omega arith))) (ap (λ (r : List ℕ). x ∷ r) (upto-take k b (omega arith)))
 
+  -- those not behind a message come first
+  pub upto-first : (top : ℕ) {l : List ℕ} → Rising l →
+      only (λ (x : ℕ). not (precedes s top x)) l ≡ take (length (only (λ (x : ℕ). not (precedes s top x)) l)) l
+  upto-first top flat = refl
+  upto-first top (up {x} {xs} a b) = go (precedes s top x) refl (upto-first top b)
+    where
+      go : (c : Bool) → precedes s top x ≡ c → only (λ (y : ℕ). not (precedes s top y)) xs ≡ take (length (only (λ (y : ℕ). not (precedes s top y)) xs)) xs →
+          only (λ (y : ℕ). not (precedes s top y)) (x ∷ xs) ≡ take (length (only (λ (y : ℕ). not (precedes s top y)) (x ∷ xs))) (x ∷ xs)
+      go false e ih = rw e (ap (λ (r : List ℕ). x ∷ r) ih)
+      go true e ih =
+          let z : only (λ (y : ℕ). not (precedes s top y)) xs ≡ [] = only-none (λ (y : ℕ). not (precedes s top y)) (all-weak (λ y q. ap not (precede-trans s top x y e q)) a) in
+          rw (e, z)
+
+pub only-shorter : (p : ℕ → Bool) (l : List ℕ) → length (only p l) ≤ length l
+only-shorter p [] = omega arith
+only-shorter p (x ∷ l) = go (p x) (only-shorter p l)
+  where
+    go : (c : Bool) → length (only p l) ≤ length l → length (cond c (x ∷ only p l) (only p l)) ≤ suc (length l)
+    go true h = omega arith
+    go false h = omega arith
+
 -- offsets that grow
 pub data Growing : List ℕ → Type 0 where
   flat : Growing []
