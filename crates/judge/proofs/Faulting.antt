@@ -17,8 +17,8 @@ use Rattle.batch.specs.declared.next.Batch.{Batch}
 use Rattle.batch.specs.Next.{left, NextIs}
 use Rattle.judge.specs.declared.check.Check.{Check}
 use Rattle.judge.specs.Walk.{leastFault}
-use Rattle.judge.specs.Stub.{Told, Bound}
-use Rattle.judge.specs.Stub as stub
+use Rattle.batch.specs.Keep.{Told, Bound}
+use Rattle.batch.specs.Keep as keep
 pub use Rattle.judge.specs.State.{offsets}
 use Rattle.judge.specs.State.{ordered, Given, Last, no, one, Chain, lastOf, Beyond, Checked, Checks, Batched}
 use Rattle.judge.proofs.Leaving.{chain-left, left-on, left-all, chain-take}
@@ -28,8 +28,8 @@ abbrev pub leftAt : Bytes → ℕ → ℕ → List ℕ
 leftAt s stop last = left s last (offsets s stop)
 
 last-bound : (s : Bytes) (last : ℕ) → Last s last → Bound s last
-last-bound s last no = stub.none refl
-last-bound s last (one p h) = stub.one p
+last-bound s last no = keep.none refl
+last-bound s last (one p h) = keep.one p
 
 -- ---- a batch
 

@@ -39,7 +39,7 @@ use Rattle.item.proofs.Fronts.{front-less, drop-bytes, take-bytes, cons-bytes}
 use Rattle.walk.specs.Seek.{Seeks}
 use Rattle.walk.proofs.Lengths.{body-bytes}
 use Rattle.heard.specs.Place.{typeAt, sizeAt, keyAt, Payload, Sized, v4, v6, key}
-use Rattle.judge.specs.Stub.{recordField}
+use Rattle.heard.specs.Field.{recordField}
 use Rattle.judge.specs.declared.find.Found.{Found}
 use Rattle.judge.specs.State.{Finds}
 
@@ -286,7 +286,7 @@ part-split a from at to h k =
 
 -- a record's field in an array, from its start on
 module _ (k : Bytes) (n₀ n : Bytes) (room : length (recordField k) ≤ length n₀) (e : n ≡ sets n₀ 0 (recordField k)) where
-  pub laid : n ≡ recordField k ++ drop (length (recordField k)) n₀
+  laid : n ≡ recordField k ++ drop (length (recordField k)) n₀
   laid = e ∙ sets-eq (recordField k) n₀ 0 (omega (arith, room)) ∙ ap (λ (n : ℕ). recordField k ++ drop n n₀) (zero-add (length (recordField k)))
 
   pub named : k ≡ getD k 0 0 ∷ drop 1 k → (size : ℕ) → size ≡ length (recordField k) → keyIn n (record { kind = getD n 0 0; from = 3; to = size }) ≡ k
@@ -328,7 +328,10 @@ module _ (a : Bytes) (from : ℕ) (s : Bytes) (x : ℕ) (p : Payload s x) where
         ready = d .ready;
       }
 
+  pub find-room : (n₀ : Bytes) → length n₀ ≡ 1056 → 0 + length (recordField (keyAt s x)) ≤ length n₀
+  find-room n₀ l = omega (arith, l, record-short s x p)
+
   pub find-from : (b at count : ℕ) → Seeks a from b at count → Ready Announced a at
   find-from b at count k = k .ready
 
-pub ruleset finding = (find-is, find-from)
+pub ruleset finding = (find-is, find-room, find-from)

@@ -51,7 +51,8 @@ use Rattle.judge.specs.declared.judge.Length.{Length}
 use Rattle.judge.specs.declared.judge.Length.the-variants.{Over, Within}
 use Rattle.judge.specs.Walk.{leastFault, settled}
 use Rattle.judge.specs.Answer.{takenOf, misfitAs, takenAdmitted, stopAdmitted, judgeAdmitted, leaves, resultOf, countsOf, accepted, judgeAnswer, judgeOf, judgeOut}
-use Rattle.judge.specs.Stub.{recordField, stopIs, countFlags, sumFields, HeardIs}
+use Rattle.heard.specs.Field.{recordField}
+use Rattle.judge.specs.Stub.{stopIs, countFlags, sumFields, HeardIs}
 use Rattle.judge.specs.State.{offsets, ordered, Given, leftAll, RoomFor, lengthOf, Balanced}
 use Rattle.judge.proofs.Leaving.{offsets-are}
 use Rattle.judge.proofs.Finding.{bytes-from}
@@ -112,7 +113,7 @@ over-room m room = go (leb m room) refl
     go true p e = absurd (let z : _≡_ {A = ℕ} 0 1 = cc in omega arith)
     go false p e = leb-false m room p
 
-module _ (a s : Bytes) (stop more less : ℕ) (b : Balanced a s stop more less) (o : Bytes) (r : Length) (e : r ≡ lengthOf (length a + more - less) (length o)) where
+module _ (a s : Bytes) (stop more less : ℕ) (buf : List ℕ) (b : Balanced a s stop more less buf) (o : Bytes) (r : Length) (e : r ≡ lengthOf (length a + more - less) (length o)) where
   abbrev whole : Bytes
   whole = leftAll a s stop
 
@@ -135,9 +136,20 @@ module _ (a s : Bytes) (stop more less : ℕ) (b : Balanced a s stop more less) 
     pub all-out : (p : Bytes) → p ≡ sets o 0 whole → p ≡ outAfter Yes whole o
     all-out p d =
         let h : length whole ≤ length o = all-room .room in
-        rw (le-leb (length whole) (length o) h) (d ∙ sets-eq whole o 0 (omega (arith, h)) ∙ ap (λ (k : ℕ). whole ++ drop k o) (omega arith))
+        let z : 0 + length whole ≡ length whole = omega arith in
+        rw (le-leb (length whole) (length o) h) (d ∙ sets-eq whole o 0 (omega (arith, h)) ∙ ap (λ (k : ℕ). whole ++ drop k o) z)
 
-pub ruleset putting-all = (all-over, all-left, all-room, all-within, all-out)
+module _ (a s : Bytes) (stop more less : ℕ) (buf : List ℕ) (b : Balanced a s stop more less buf) where
+  pub all-given : Given a s stop
+  all-given = b .given
+
+  pub all-len : length buf ≡ 6000
+  all-len = b .len
+
+  pub all-enough : less ≤ length a + more
+  all-enough = omega (arith, b .is)
+
+pub ruleset putting-all = (all-given, all-len, all-enough, all-over, all-left, all-room, all-within, all-out)
 
 -- ---- our snapshot
 
@@ -236,15 +248,15 @@ module _ (v : Version) (a m : Bytes) (x : Admitted) (e : x ≡ admitOneOf Snapsh
         unfolding judgeOut
         judge-faulty-left o = rw faulty
 
-      pub judge-balanced : ((i : ℕ) → Fits w8 (getD a i 0)) → Balanced a m (h .over) (h .more) (h .less)
+      pub judge-balanced : ((i : ℕ) → Fits w8 (getD a i 0)) → (buf : List ℕ) → length buf ≡ 6000 → Balanced a m (h .over) (h .more) (h .less) buf
       unfolding leftAll sumFields
-      judge-balanced oa =
+      judge-balanced oa buf len =
           let z : encode Snapshot (items a) ≡ a = bytes-from a 0 (judge-given .ready) oa in
           let w = taken-length m (sumFields m true) (sumFields m false) refl (λ n ns. plus n ns (announcesAt m n)) refl (λ n ns. minus n ns (announcesAt m n))
-              (items a) (apply bytes (items a) (settled m (ordered m (h .over)))) is-map messages (no-fault (items a) m xs 8 (h .over) l is-map (omega arith) messages f ge .taken) in
+          (items a) (apply bytes (items a) (settled m (ordered m (h .over)))) is-map messages (no-fault (items a) m xs 8 (h .over) l is-map (omega arith) messages f ge .taken) in
           let p : h .more ≡ sumFields m true xs = k .more ∙ ap (sumFields m true) (sym xs-are) in
           let q : h .less ≡ sumFields m false xs = k .less ∙ ap (sumFields m false) (sym xs-are) in
-          record { is = omega (arith, w, p, q, ap length z) }
+          record { given = judge-given; is = omega (arith, w, p, q, ap length z); len = len }
         where
           plus : (n : ℕ) (ns : List ℕ) (b : Bool) → cond b (cond true (length (recordField (keyAt m n))) 0) (cond true 0 (length (recordField (keyAt m n)))) + sumFields m true ns ≡ cond b (length (recordField (keyAt m n))) 0 + sumFields m true ns
           plus n ns b = refl

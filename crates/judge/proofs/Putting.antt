@@ -18,7 +18,7 @@ use Rattle.batch.specs.declared.next.Batch.{Batch}
 use Rattle.batch.specs.Next.{left, NextIs}
 use Rattle.judge.specs.declared.write.Write.{Write}
 use Rattle.judge.specs.Walk.{settled}
-use Rattle.judge.specs.Stub.{Told}
+use Rattle.batch.specs.Keep.{Told}
 use Rattle.judge.specs.State.{offsets, ordered, Given, no, lastOf, Batched, leftOver, Written, Fitting, Ending, Writes, leftAll, RoomFor}
 use Rattle.judge.proofs.Leaving.{left-all}
 use Rattle.judge.proofs.Faulting.{given-told, next-batched, whole, next-all, next-on, next-less}

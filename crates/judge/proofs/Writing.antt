@@ -35,15 +35,15 @@ use Rattle.item.specs.Reading.{Ready}
 use Rattle.item.proofs.Sinking.{sets-append}
 use Rattle.walk.proofs.Walking.{walk-left-first, walk-right-first}
 use Rattle.message.specs.Take.{asItem}
+use Rattle.heard.specs.Field.{recordField}
 use Rattle.heard.specs.Place.{keyAt, announcesAt, toldAt, Payload}
 use Rattle.judge.specs.declared.find.Found.{Found}
 use Rattle.judge.specs.declared.write.Write.{Write}
-use Rattle.judge.specs.Stub.{recordField}
 use Rattle.judge.specs.Walk.{follows, settle, settled}
 use Rattle.judge.specs.State.{Last, no, one, Next, Chain, end, on, lastOf, Finds, Batched, settleFrom, leftOver, Written, Fitting, Ending, Writes, settledField, Settles}
 use Rattle.judge.proofs.Settled.{settle-end, settle-same, settle-other, settled-end, settled-more}
 use Rattle.judge.proofs.Sorting.{follows-same}
-use Rattle.judge.proofs.Finding.{encode-append, bytes-from, laid, record-short}
+use Rattle.judge.proofs.Finding.{encode-append, bytes-from}
 use Rattle.judge.proofs.Checking.{follows-key, last-payload, next-of}
 
 abbrev S : Type 0
@@ -93,6 +93,12 @@ module _ (s : Bytes) (last : ℕ) where
         kept : settledField s last ≡ recordField (keyAt s last)
         kept = field-is e ∙ ap (λ (b : Bool). cond b (recordField (keyAt s last)) []) (sym f ∙ not-false t k)
 
+        pub kept-room : Settles s last o end → end + length (recordField (keyAt s last)) ≤ length o
+        kept-room h = omega (arith, ap length kept, h .room)
+
+        pub kept-out : (p : Bytes) → p ≡ sets o end (recordField (keyAt s last)) → p ≡ sets o end (settledField s last)
+        kept-out p d = d ∙ ap (sets o end) (sym kept)
+
         module _ (size : ℕ) (z : size ≡ length (recordField (keyAt s last))) where
           pub kept-end : end + size ≡ end + length (settledField s last)
           kept-end = omega (arith, z, ap length kept)
@@ -100,22 +106,7 @@ module _ (s : Bytes) (last : ℕ) where
           pub kept-add : Settles s last o end → Fits w64 (length o) → end + size < 2 ^ 64
           kept-add h w = omega (arith, z, ap length kept, h .room, w .fits)
 
-          module _ (h : Settles s last o end) (n₀ n : Bytes) (l : length n₀ ≡ 1056) (q : n ≡ sets n₀ 0 (recordField (keyAt s last))) where
-            short : length (recordField (keyAt s last)) ≤ length n₀
-            short = rw l (record-short s last (settles-payload h e))
-
-            pub kept-lies : Lies n (record { from = 0; to = size })
-            kept-lies = record { ordered = omega arith; within = omega (arith, z, short, ap length q, length-sets n₀ 0 (recordField (keyAt s last))) }
-
-            name-is : partIn n (record { from = 0; to = size }) ≡ recordField (keyAt s last)
-            name-is =
-                ap (take (size - 0)) (laid (keyAt s last) n₀ n short q)
-                ∙ take-at (recordField (keyAt s last)) (drop (length (recordField (keyAt s last))) n₀) (size - 0) (omega (arith, z))
-
-            pub kept-out : (p : Bytes) → p ≡ sets o end (partIn n (record { from = 0; to = size })) → p ≡ sets o end (settledField s last)
-            kept-out p d = d ∙ ap (sets o end) (name-is ∙ sym kept)
-
-pub ruleset settling = (first-end, first-out, settles-payload, gone-end, gone-out, kept-end, kept-add, kept-lies, kept-out)
+pub ruleset settling = (first-end, first-out, settles-payload, gone-end, gone-out, kept-room, kept-out, kept-end, kept-add)
 
 -- ---- what becomes of records, from one on
 
@@ -210,7 +201,7 @@ found-step a s from x r f zs =
     let y : Item Bytes (Change Bytes) = record { key = keyAt s x; val = says (g .flag) } in
     let z : apply bytes (items (drop from a)) (y ∷ g .rest) ≡ f .passed ++ apply bytes B (y ∷ g .rest)
     = ap (λ (l : S). apply bytes l (y ∷ g .rest)) (f .split) ∙ apply-pass (f .passed) (f .here ++ B) y (g .rest) (f .low)
-        ∙ ap (λ (l : S). f .passed ++ l) (apply-here (f .here) B (keyAt s x) (g .flag) (r .here) (g .rest) (f .is-here) (f .counted) (f .rest)) in
+    ∙ ap (λ (l : S). f .passed ++ l) (apply-here (f .here) B (keyAt s x) (g .flag) (r .here) (g .rest) (f .is-here) (f .counted) (f .rest)) in
     rw (g .is) (ap (encode Snapshot) z ∙ encode-append (f .passed) (apply bytes B (y ∷ g .rest)) ∙ ap (λ (l : Bytes). l ++ encode Snapshot (apply bytes B (y ∷ g .rest))) (f .bytes-are))
 
 part-size : (a : Bytes) (from to : ℕ) → to ≤ length a → length (part a from to) ≡ to - from

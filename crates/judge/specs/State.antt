@@ -17,6 +17,7 @@ use Rattle.payload.specs.Content.{Bytes}
 use Rattle.payload.specs.Payload.{encode, items}
 use Rattle.item.specs.declared.reading.Reading.the-variants.{Announced}
 use Rattle.item.specs.Reading.{Ready}
+use Rattle.heard.specs.Field.{recordField}
 use Rattle.heard.specs.Place.{sizeAt, keyAt, announcesAt, Payload, Messages}
 use Rattle.batch.specs.Next.{isAbove, sorted, left}
 use Rattle.judge.specs.declared.find.Found.{Found}
@@ -24,7 +25,6 @@ use Rattle.judge.specs.declared.check.Check.{Check}
 use Rattle.judge.specs.declared.write.Write.{Write}
 use Rattle.judge.specs.declared.judge.Length.{Length}
 use Rattle.judge.specs.declared.judge.Length.the-variants.{Over, Within}
-use Rattle.judge.specs.Stub.{recordField}
 use Rattle.judge.specs.Walk.{isFault, lesser, leastFault, settle, settled}
 
 -- the offsets of messages that follow each other from `at` up to `stop`, fewer than `fuel`
@@ -166,6 +166,8 @@ pub record RoomFor (a s : Bytes) (stop : ℕ) (o : Bytes) : Type 0 where
 abbrev pub lengthOf : ℕ → ℕ → Length
 lengthOf n room = cond (leb n room) (Within n) Over
 
--- the length of what all messages leave, by the bytes that they announce and withdraw
-pub record Balanced (a s : Bytes) (stop more less : ℕ) : Type 0 where
+-- the length of what all messages leave, by the bytes that they announce and withdraw; and a buffer
+pub record Balanced (a s : Bytes) (stop more less : ℕ) (buf : List ℕ) : Type 0 where
+  pub given : Given a s stop
   pub is : length (leftAll a s stop) + less ≡ length a + more
+  pub len : length buf ≡ 6_000

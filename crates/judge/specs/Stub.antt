@@ -4,17 +4,14 @@ use mathlib.Core.Path.{_≡_}
 use mathlib.Core.List.{List, [], _∷_, map}
 use mathlib.Core.Bool.{Bool, true, false, cond, not}
 use lib.ListN.{length, getD, drop}
-use Rattle.field.specs.Cells.{field}
 use Rattle.payload.specs.Content.{Bytes}
 use Rattle.message.specs.declared.version.Version.{Version}
 use Rattle.message.specs.Hear as message
+use Rattle.heard.specs.Field.{recordField}
 use Rattle.heard.specs.Place.{Payload, Messages, keyAt, announcesAt, toldAt, sizeAt}
 use Rattle.judge.specs.declared.stub.Stop.{Stop}
 use Rattle.judge.specs.declared.stub.Stop.the-variants.{Faulty, Ended}
 use Rattle.judge.specs.declared.stub.Heard.{Heard}
-
-abbrev pub recordField : Bytes → Bytes
-recordField k = field (getD k 0 0) (drop 1 k)
 
 abbrev pub stopIs : Stop → message.Stop
 stopIs (Faulty at) = message.faulty at
@@ -37,13 +34,3 @@ pub record HeardIs (v : Version) (s : Bytes) (r : Heard) : Type 0 where
   pub withdrawn : r .withdrawn ≡ countFlags s false xs
   pub more : r .more ≡ sumFields s true xs
   pub less : r .less ≡ sumFields s false xs
-
--- 0 or a payload message
-pub data Bound (s : Bytes) (x : ℕ) : Type 0 where
-  none : x ≡ 0 → Bound s x
-  one : Payload s x → Bound s x
-
-pub record Told (s : Bytes) (stop low : ℕ) : Type 0 where
-  pub xs : List ℕ
-  pub messages : Messages s 8 xs stop
-  pub bound : Bound s low

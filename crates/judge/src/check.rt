@@ -1,7 +1,7 @@
 // Messages in message order against a snapshot: the first of the answer that does not fit.
 use crate::find::find;
-use heard::place::announces;
 use heard::compare::same_record;
+use heard::place::announces;
 ghost use mathlib.Core.Path.{_≡_};
 ghost use mathlib.Core.Bool.{cond, not};
 ghost use lib.ListN.{take};
@@ -74,7 +74,13 @@ fn check_one(snapshot: &[u8], s: &[u8], x: usize, c: Check) -> Check
 }
 
 // The n messages of a batch more.
-pub(crate) fn check_batch(snapshot: &[u8], s: &[u8], buf: &[usize; 6000], n: usize, from: Check) -> Check
+pub(crate) fn check_batch(
+    snapshot: &[u8],
+    s: &[u8],
+    buf: &[usize; 6000],
+    n: usize,
+    from: Check,
+) -> Check
     requires { ⌜ Checked (now snapshot) (now s) from × Batched (now s) (from .last) (now buf) n ⌝ }
     ensures { λ r. ⌜ Checks (now (snapshot .entry)) (now (s .entry)) from (take n (now (buf .entry))) r ⌝ }
 {

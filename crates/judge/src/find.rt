@@ -1,13 +1,13 @@
 // A message's record sought in the snapshot.
-use crate::stub::put_record;
 use field::key::Key;
 use field::key::key_compare;
+use heard::front::front_at;
+use heard::put::put_record;
 use item::reading::Read;
 use item::reading::Reading;
 use item::reading::read_at;
 use order::Ordering;
 use walk::seek::seek;
-use heard::front::front_at;
 ghost use mathlib.Core.Path.{_≡_};
 ghost use Rattle.field.specs.Places.{keyIn};
 ghost use Rattle.item.specs.declared.reading.Reading.the-variants.{Announced};

@@ -7,12 +7,12 @@ use delta::admit::Admitted;
 use delta::admit::admit_one;
 use delta::refusal::Refusal;
 use field::tag::Form;
+use heard::place::announces;
 use item::sink::Counts;
 use message::version::Version;
 use serial::Serial;
 use serial::Session;
 use serial::timing::Timing;
-use heard::place::announces;
 ghost use mathlib.Core.Path.{_≡_};
 ghost use Prim.Native.Nat.{_+_, _-_, _≤_};
 ghost use lib.ListN.{length};
@@ -20,7 +20,7 @@ ghost use Rattle.delta.specs.declared.admit.Admitted.the-variants.{Yes};
 ghost use Rattle.delta.specs.Answer.{outAfter};
 ghost use Rattle.heard.specs.Place.{Payload, toldAt};
 ghost use Rattle.judge.specs.Answer.{misfitAs, judgeOf, judgeOut};
-ghost use Rattle.judge.specs.State.{Given, Balanced, leftAll, lengthOf};
+ghost use Rattle.judge.specs.State.{Balanced, leftAll, lengthOf};
 
 pub enum Judged {
     // The session, the serial and the times of the End of Data, and what was written.
@@ -77,7 +77,7 @@ fn put_all(
     buf: &mut [usize; 6000],
     out: &mut [u8],
 ) -> Length
-    requires { ⌜ Given (now snapshot) (now s) stop × (Balanced (now snapshot) (now s) stop more less × (length (now buf) ≡ 6000)) ⌝ }
+    requires { ⌜ Balanced (now snapshot) (now s) stop more less (now buf) ⌝ }
     ensures { λ r. ⌜ (r ≡ lengthOf (length (leftAll (now (snapshot .entry)) (now (s .entry)) stop)) (length (now (out .entry)))) × (now (out .exit) ≡ outAfter Yes (leftAll (now (snapshot .entry)) (now (s .entry)) stop) (now (out .entry))) ⌝ }
 {
     let Length::Within(len) = sized(snapshot.len(), more, less, out.len()) else {

@@ -1,7 +1,7 @@
 // All messages of an answer in message order, batch by batch: the least offset of one at fault.
 use crate::check::Check;
 use crate::check::check_batch;
-use crate::stub::next;
+use batch::next::next;
 ghost use mathlib.Core.Path.{_≡_};
 ghost use lib.ListN.{length};
 ghost use Rattle.payload.specs.Payload.{items};

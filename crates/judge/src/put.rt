@@ -1,8 +1,8 @@
 // All messages of an answer in message order, batch by batch: what they leave of the snapshot, written.
-use crate::stub::next;
 use crate::write::Write;
 use crate::write::settle;
 use crate::write::write_batch;
+use batch::next::next;
 use item::copy::copy;
 use item::place::Part;
 ghost use mathlib.Core.Path.{_≡_};

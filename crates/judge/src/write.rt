@@ -1,10 +1,10 @@
 // Messages in message order over a snapshot: what they leave of it, written.
 use crate::check::is_next;
 use crate::find::find;
-use crate::stub::put_record;
+use heard::place::announces;
+use heard::put::put_record;
 use item::copy::copy;
 use item::place::Part;
-use heard::place::announces;
 ghost use mathlib.Core.Path.{_≡_};
 ghost use mathlib.Core.List.{_∷_, []};
 ghost use Prim.Native.Nat.{_+_};
@@ -33,10 +33,7 @@ pub(crate) fn settle(s: &[u8], last: usize, out: &mut [u8], end: usize) -> usize
     if !announces(s, last) {
         return end;
     }
-    let mut name = [0u8; 1056];
-    let size = put_record(s, last, &mut name, 0);
-    copy(&name, Part { from: 0, to: size }, out, end);
-    end + size
+    end + put_record(s, last, out, end)
 }
 
 // One message more.
@@ -64,7 +61,14 @@ fn write_one(snapshot: &[u8], s: &[u8], x: usize, out: &mut [u8], w: Write) -> W
 }
 
 // The n messages of a batch more.
-pub(crate) fn write_batch(snapshot: &[u8], s: &[u8], buf: &[usize; 6000], n: usize, out: &mut [u8], from: Write) -> Write
+pub(crate) fn write_batch(
+    snapshot: &[u8],
+    s: &[u8],
+    buf: &[usize; 6000],
+    n: usize,
+    out: &mut [u8],
+    from: Write,
+) -> Write
     requires { ⌜ Written (now snapshot) (now s) from × (Batched (now s) (from .last) (now buf) n × Fitting (now snapshot) (now s) from (take n (now buf)) (now out)) ⌝ }
     ensures { λ r. ⌜ Writes (now (snapshot .entry)) (now (s .entry)) from (take n (now (buf .entry))) (now (out .entry)) (now (out .exit)) r ⌝ }
 {

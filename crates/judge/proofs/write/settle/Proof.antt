@@ -12,17 +12,8 @@ announces-requires c κs = search (settling, needs)
 returns-2 : tie.Need-returns-2
 returns-2 c = search (settling, needs)
 
-slice-aggregate-put-record : tie.Need-slice-aggregate-put-record
-slice-aggregate-put-record c = search (settling, needs)
-
 put-record-requires : tie.Need-put-record-requires
 put-record-requires c κs = search (settling, needs)
-
-slice-aggregate-copy : tie.Need-slice-aggregate-copy
-slice-aggregate-copy c = search (settling, needs)
-
-copy-requires : tie.Need-copy-requires
-copy-requires c κs = search (settling, needs)
 
 add-result : tie.Need-add-result
 add-result c = search (settling, needs)
@@ -40,10 +31,7 @@ settle-spec =
     returns
     announces-requires
     returns-2
-    slice-aggregate-put-record
     put-record-requires
-    slice-aggregate-copy
-    copy-requires
     add-result
     same-length
     returns-3)
