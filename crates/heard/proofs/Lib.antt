@@ -3,3 +3,7 @@ pub mod Places
 pub mod Fronts
 pub mod Comparing
 pub mod Putting
+pub mod Summing
+pub mod Checking
+pub mod Reading
+pub mod Hearing

@@ -22,9 +22,9 @@ use Rattle.item.proofs.Copying.{within-set, two-stored, top-fits}
 use Rattle.heard.specs.Place.{typeAt, sizeAt, keyAt, Payload}
 use Rattle.heard.specs.Field.{recordField}
 use Rattle.heard.specs.Compare.{Of}
-use Rattle.heard.specs.Put.{wordsBytes, Holds}
+use Rattle.heard.specs.Put.{Prefix, wordsBytes, Holds}
 use Rattle.heard.proofs.Keys.{byteAt, word-from, four-from, fourKey, four-key, sixKey, six-key, router-key}
-use Rattle.heard.proofs.Places.{low-half, high-half, least, third, size-least, size-most}
+use Rattle.heard.proofs.Places.{low-half, high-half, least, long, third, size-least, size-most}
 use Rattle.heard.proofs.Comparing.{lengths-at, six-long, key-octets, octets-cons}
 
 -- ---- four_words, six_words
@@ -40,7 +40,7 @@ module _ (s : Bytes) (at : ℕ) (o : Octets s) where
   start-low : wordAt s (at + 8) % 4_294_967_296 ≡ four (b 12) (b 13) (b 14) (b 15)
   start-low = let z : at + 8 + 4 ≡ at + 12 = omega arith in low-half s o (at + 8) ∙ rw z (four-from s at 12)
 
-  module _ (f : Of s 4 at) (u w : ℕ) (d : u ≡ wordAt s (at + 8)) (e : w ≡ wordAt s (at + 12)) where
+  module _ (f : Prefix s 4 20 at) (u w : ℕ) (d : u ≡ wordAt s (at + 8)) (e : w ≡ wordAt s (at + 12)) where
     pub four-words-is : _≡_ {A = Words} (record { first = 0x0100170400000000 + u % 4_294_967_296; second = 0; third = u / 1_099_511_627_776 % 65_536 * 65_536 + w % 4_294_967_296 / 65_536; last = w % 4_294_967_296 % 65_536 }) (wordsAt (recordField (keyAt s at)) 0)
     unfolding wordAt field
     four-words-is =
@@ -48,10 +48,10 @@ module _ (s : Bytes) (at : ℕ) (o : Octets s) where
         let g : wordAt s (at + 12) % 4_294_967_296 ≡ four (b 16) (b 17) (b 18) (b 19) = low-half s o (at + 12) ∙ rw z (four-from s at 16) in
         let h : four (b 16) (b 17) (b 18) (b 19) / 65_536 ≡ two (b 16) (b 17) = omega (arith, o (at + 18) .fits, o (at + 19) .fits) in
         let k : four (b 16) (b 17) (b 18) (b 19) % 65_536 ≡ two (b 18) (b 19) = omega (arith, o (at + 18) .fits, o (at + 19) .fits) in
-        rw (d, e, four-key s at (f .type) (least s at (f .payload)), start-low, lengths-at s at o, g, h, k)
+        rw (d, e, four-key s at (f .type) (f .within), start-low, lengths-at s at o, g, h, k)
         (words-path (omega arith) (omega arith) (omega arith) refl)
 
-  module _ (f : Of s 6 at) (u v w : ℕ) (d : u ≡ wordAt s (at + 8)) (c : v ≡ wordAt s (at + 16)) (e : w ≡ wordAt s (at + 24)) where
+  module _ (f : Prefix s 6 32 at) (u v w : ℕ) (d : u ≡ wordAt s (at + 8)) (c : v ≡ wordAt s (at + 16)) (e : w ≡ wordAt s (at + 24)) where
     pub six-words-is : _≡_ {A = Words} (record { first = 0x0100170600000000 + u % 4_294_967_296; second = v; third = (w / 4_294_967_296 * 65_536 + u / 1_099_511_627_776 % 65_536) * 65_536 + w % 4_294_967_296 / 65_536; last = w % 4_294_967_296 % 65_536 }) (wordsAt (recordField (keyAt s at)) 0)
     unfolding wordAt field
     six-words-is =
@@ -60,13 +60,26 @@ module _ (s : Bytes) (at : ℕ) (o : Octets s) where
         let i : wordAt s (at + 24) / 4_294_967_296 ≡ four (b 24) (b 25) (b 26) (b 27) = high-half s o (at + 24) ∙ four-from s at 24 in
         let h : four (b 28) (b 29) (b 30) (b 31) / 65_536 ≡ two (b 28) (b 29) = omega (arith, o (at + 30) .fits, o (at + 31) .fits) in
         let k : four (b 28) (b 29) (b 30) (b 31) % 65_536 ≡ two (b 30) (b 31) = omega (arith, o (at + 30) .fits, o (at + 31) .fits) in
-        rw (d, c, e, six-key s at (f .type) (six-long s at o f), start-low, lengths-at s at o, g, i, h, k)
+        rw (d, c, e, six-key s at (f .type) (f .within), start-low, lengths-at s at o, g, i, h, k)
         (words-path (omega arith) (word-from s at 16) (omega arith) refl)
 
-pub six-second-in : (s : Bytes) (at : ℕ) → Octets s → Of s 6 at → at + 16 + 8 ≤ length s
-six-second-in s at o f = omega (arith, six-long s at o f)
+module _ (s : Bytes) (at : ℕ) where
+  pub four-in : Prefix s 4 20 at → at + 8 + 8 ≤ length s
+  four-in f = omega (arith, f .within)
 
-pub ruleset wording = (four-words-is, six-words-is, six-second-in)
+  pub four-in-2 : Prefix s 4 20 at → at + 12 + 8 ≤ length s
+  four-in-2 f = omega (arith, f .within)
+
+  pub six-in : Prefix s 6 32 at → at + 8 + 8 ≤ length s
+  six-in f = omega (arith, f .within)
+
+  pub six-in-2 : Prefix s 6 32 at → at + 16 + 8 ≤ length s
+  six-in-2 f = omega (arith, f .within)
+
+  pub six-in-3 : Prefix s 6 32 at → at + 24 + 8 ≤ length s
+  six-in-3 f = omega (arith, f .within)
+
+pub ruleset wording = (four-words-is, four-in, four-in-2, six-words-is, six-in, six-in-2, six-in-3)
 
 -- ---- store_pair, store_words
 
@@ -119,7 +132,7 @@ two-taken f o i h =
     rw (drop-cons f i 0 g, drop-cons f (suc i) 0 k, e, p, q)
 
 -- 26 bytes are the bytes of their words
-words-back : (f : Bytes) → Octets f → length f ≡ 26 → wordsBytes (wordsAt f 0) ≡ f
+pub words-back : (f : Bytes) → Octets f → length f ≡ 26 → wordsBytes (wordsAt f 0) ≡ f
 words-back f o n =
     let e2 : twoBytes (twoAt f 24) ≡ drop 24 f = two-taken f o 24 (omega arith) ∙ take-all 2 (drop 24 f) (simp length-drop (omega arith)) in
     let e1 : take 8 (drop 16 f) ++ drop 24 f ≡ drop 16 f = rw (drop-drop 8 16 f) at (take-append-drop 8 (drop 16 f)) in
@@ -138,14 +151,14 @@ field-octets k o h =
     (octets-cons (length (drop 1 k) % 256) (drop 1 k) (omega arith) (octets-drop k o)))
 
 module _ (s : Bytes) (at : ℕ) (o : Octets s) (n : length (keyAt s at) ≡ 24) where
-  prefix-long : length (recordField (keyAt s at)) ≡ 26
+  pub prefix-long : length (recordField (keyAt s at)) ≡ 26
   unfolding field
   prefix-long = let e = length-drop 1 (keyAt s at) in omega arith
 
-  prefix-octets : Octets (recordField (keyAt s at))
+  pub prefix-octets : Octets (recordField (keyAt s at))
   prefix-octets = field-octets (keyAt s at) (key-octets s at o) (omega (arith, length-drop 1 (keyAt s at)))
 
-  prefix-last : (w : Words) → w ≡ wordsAt (recordField (keyAt s at)) 0 → w .last < 65_536
+  pub prefix-last : (w : Words) → w ≡ wordsAt (recordField (keyAt s at)) 0 → w .last < 65_536
   prefix-last w e = rw e (omega (arith, prefix-octets 24 .fits, prefix-octets 25 .fits))
 
   prefix-stored : (w : Words) → w ≡ wordsAt (recordField (keyAt s at)) 0 → (p q : Bytes) (i : ℕ) → q ≡ sets p i (wordsBytes w) → q ≡ sets p i (recordField (keyAt s at))
@@ -159,11 +172,11 @@ pub six-24 : (s : Bytes) (at : ℕ) → Octets s → Payload s at → typeAt s a
 six-24 s at o p t = rw (six-key s at t (six-long s at o (record { payload = p; type = t })))
 
 module _ (s : Bytes) (at : ℕ) (o : Octets s) (p : Payload s at) (k : ℕ) (d : k ≡ typeAt s at) where
-  pub put-four : k ≡ 4 → Of s 4 at
-  put-four e = record { payload = p; type = sym d ∙ e }
+  pub put-four : k ≡ 4 → Prefix s 4 20 at
+  put-four e = record { type = sym d ∙ e; within = least s at p }
 
-  pub put-six : k ≡ 6 → Of s 6 at
-  put-six e = record { payload = p; type = sym d ∙ e }
+  pub put-six : k ≡ 6 → Prefix s 6 32 at
+  put-six e = record { type = sym d ∙ e; within = long s at p (λ h. let z : _≡_ {A = ℕ} 4 6 = sym h ∙ (sym d ∙ e) in omega arith) }
 
   pub put-keyed : (k ≡ 4 → ⊥) → (k ≡ 6 → ⊥) → Of s 9 at
   put-keyed g h = record { payload = p; type = third s at p (λ e. g (d ∙ e)) (λ e. h (d ∙ e)) }

@@ -15,11 +15,11 @@ ghost use Rattle.field.specs.Words.{wordsAt};
 ghost use Rattle.heard.specs.Place.{keyAt, Payload};
 ghost use Rattle.heard.specs.Field.{recordField};
 ghost use Rattle.heard.specs.Compare.{Of};
-ghost use Rattle.heard.specs.Put.{wordsBytes, Holds};
+ghost use Rattle.heard.specs.Put.{Prefix, wordsBytes, Holds};
 
 // The field of an IPv4 prefix's record, as words.
-fn four_words(s: &[u8], at: usize) -> Words
-    requires { ⌜ Of (now s) 4 at ⌝ }
+pub(crate) fn four_words(s: &[u8], at: usize) -> Words
+    requires { ⌜ Prefix (now s) 4 20 at ⌝ }
     ensures { λ r. ⌜ r ≡ wordsAt (recordField (keyAt (now (s .entry)) at)) 0 ⌝ }
 {
     let start = word_at(s, at + 8);
@@ -33,8 +33,8 @@ fn four_words(s: &[u8], at: usize) -> Words
 }
 
 // The field of an IPv6 prefix's record, as words.
-fn six_words(s: &[u8], at: usize) -> Words
-    requires { ⌜ Of (now s) 6 at ⌝ }
+pub(crate) fn six_words(s: &[u8], at: usize) -> Words
+    requires { ⌜ Prefix (now s) 6 32 at ⌝ }
     ensures { λ r. ⌜ r ≡ wordsAt (recordField (keyAt (now (s .entry)) at)) 0 ⌝ }
 {
     let start = word_at(s, at + 8);
@@ -67,7 +67,7 @@ fn store_pair(out: &mut [u8], i: usize, n: usize)
 }
 
 // The words of a field at i.
-fn store_words(out: &mut [u8], i: usize, w: Words)
+pub(crate) fn store_words(out: &mut [u8], i: usize, w: Words)
     requires { ⌜ Holds (now out) i w ⌝ }
     ensures { λ r. ⌜ now (out .exit) ≡ sets (now (out .entry)) i (wordsBytes w) ⌝ }
 {
