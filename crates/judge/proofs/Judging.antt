@@ -42,9 +42,9 @@ use Rattle.message.specs.Take.{Taken, all, misfit, asItem}
 use Rattle.message.specs.Take as fold
 use Rattle.heard.specs.Place.{keyAt, announcesAt, toldAt, Payload, Messages}
 use Rattle.batch.specs.Next.{sorted}
-use Rattle.judge.specs.declared.stub.Stop.{Stop}
-use Rattle.judge.specs.declared.stub.Stop.the-variants as stop
-use Rattle.judge.specs.declared.stub.Heard.{Heard}
+use Rattle.heard.specs.declared.hear.Stop.{Stop}
+use Rattle.heard.specs.declared.hear.Stop.the-variants as stop
+use Rattle.heard.specs.declared.hear.Heard.{Heard}
 use Rattle.judge.specs.declared.judge.Judged.{Judged}
 use Rattle.judge.specs.declared.judge.Judged.the-variants.{Accepted, Refused}
 use Rattle.judge.specs.declared.judge.Length.{Length}
@@ -52,7 +52,7 @@ use Rattle.judge.specs.declared.judge.Length.the-variants.{Over, Within}
 use Rattle.judge.specs.Walk.{leastFault, settled}
 use Rattle.judge.specs.Answer.{takenOf, misfitAs, takenAdmitted, stopAdmitted, judgeAdmitted, leaves, resultOf, countsOf, accepted, judgeAnswer, judgeOf, judgeOut}
 use Rattle.heard.specs.Field.{recordField}
-use Rattle.judge.specs.Stub.{stopIs, countFlags, sumFields, HeardIs}
+use Rattle.heard.specs.Heard.{stopIs, countFlags, sumFields, HeardIs}
 use Rattle.judge.specs.State.{offsets, ordered, Given, leftAll, RoomFor, lengthOf, Balanced}
 use Rattle.judge.proofs.Leaving.{offsets-are}
 use Rattle.judge.proofs.Finding.{bytes-from}

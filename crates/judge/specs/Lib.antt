@@ -3,5 +3,4 @@ pub mod Walk
 pub mod Answer
 pub mod Promise
 -- what the contracts of inner functions say
-pub mod Stub
 pub mod State

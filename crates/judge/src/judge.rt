@@ -1,12 +1,12 @@
 // An answer of another cache, judged.
 use crate::least::least_fault;
 use crate::put::put;
-use crate::stub::Stop;
-use crate::stub::hear;
 use delta::admit::Admitted;
 use delta::admit::admit_one;
 use delta::refusal::Refusal;
 use field::tag::Form;
+use heard::hear::Stop;
+use heard::hear::hear;
 use heard::place::announces;
 use item::sink::Counts;
 use message::version::Version;

@@ -4,5 +4,4 @@ pub mod find;
 pub mod judge;
 pub mod least;
 pub mod put;
-pub mod stub;
 pub mod write;
