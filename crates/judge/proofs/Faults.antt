@@ -1,22 +1,20 @@
 -- The least fault of the messages in message order is the first misfit of the fold over them as they came.
-use Prim.Native.Nat.{ℕ, _+_, _<_, _≤_}
+use Prim.Native.Nat.{ℕ, _<_, _≤_}
 use mathlib.Core.Path.{_≡_, refl, sym, ap, _∙_}
 use mathlib.Core.List.{List, [], _∷_, map}
-use mathlib.Core.Bool.{Bool, true, false, not, cond, _&&_}
+use mathlib.Core.Bool.{Bool, true, false, cond, _&&_}
 use native.Mathlib.Omega.{arith}
 use lib.Dec.{ltb}
 use borrow.Author.Tests.{lt-ltb, le-ltb}
 use Rattle.order.specs.Comparison.{bytes}
-use Rattle.order.specs.declared.Ordering.the-variants.{Less, Equal, Greater}
 use Rattle.order.proofs.Comparison.{strings, AtMost, at-most-self, at-most-trans}
 use Rattle.change.specs.Difference as change
 use Rattle.field.specs.declared.tag.Form.the-variants.{Snapshot}
 use Rattle.payload.specs.Content.{Bytes}
 use Rattle.payload.specs.Valid.{IsMap}
-use Rattle.message.specs.Hear.{Told}
 use Rattle.message.specs.Take.{Taken, all, misfit, take}
 use Rattle.message.proofs.Taking.{take-none}
-use Rattle.heard.specs.Place.{keyAt, sizeAt, announcesAt, toldAt, Payload, Messages, done, more}
+use Rattle.heard.specs.Place.{keyAt, announcesAt, toldAt, Messages, done, more}
 use Rattle.batch.specs.Next.{insert, sorted}
 use Rattle.judge.specs.Walk.{has, follows, stands, isFault, lesser, leastFault}
 use Rattle.judge.proofs.Sorting.{between, less-apart, turned, Side, side, front, behind, Past, Ascends, InOrder, ascends-order, insert-end, insert-front, insert-behind, some-size, messages-stop, first-past, sorted-end, sorted-more, sorted-order, Under, nothing, below, follows-same, follows-apart, under-apart}

@@ -16,7 +16,7 @@ use Rattle.change.specs.Change.{Change}
 use Rattle.change.specs.Difference as change
 use Rattle.change.specs.Difference.{diff}
 use Rattle.change.specs.Application.{applyAt, apply, fits, fitsAt, Applies}
-use Rattle.change.proofs.Whole.{apply-sorted, apply-lookup, diff-sorted, diff-lookup, applies, yields}
+use Rattle.change.proofs.Whole.{apply-sorted, apply-lookup, diff-sorted, applies, yields}
 use Rattle.field.specs.declared.tag.Form.the-variants.{Snapshot}
 use Rattle.field.specs.Cells as run
 use Rattle.payload.specs.Content.{Bytes}
@@ -31,8 +31,8 @@ use Rattle.message.specs.declared.version.Version.{Version}
 use Rattle.message.specs.Version.{speaks}
 use Rattle.message.specs.Say.{kindIn, spoken}
 use Rattle.message.specs.Hear.{Told, hear}
-use Rattle.message.specs.Take.{Taken, all, misfit, asItem, take}
-use Rattle.message.proofs.Taking.{take-none, take-fits, take-applies, one-lookup, one-sorted}
+use Rattle.message.specs.Take.{all, misfit, asItem, take}
+use Rattle.message.proofs.Taking.{take-applies, one-lookup, one-sorted}
 use Rattle.message.proofs.Telling.{not-aspa, Tells, tells-map, hear-tells}
 use Rattle.message.proofs.Spoken.{kept, kept-lookup, kept-sorted, spoken-lookup, spoken-sorted}
 use Rattle.judge.specs.Promise.{later, lastWord, unspoken, Leave, Say, LeadOn, Promise}

@@ -1,15 +1,15 @@
 -- What the messages in message order leave is what the fold over them as they came leaves.
-use Prim.Native.Nat.{ℕ, _+_, _<_, _≤_}
-use mathlib.Core.Path.{_≡_, refl, sym, ap, _∙_}
+use Prim.Native.Nat.{ℕ, _+_, _<_}
+use mathlib.Core.Path.{_≡_, refl, sym, _∙_}
 use mathlib.Core.List.{List, [], _∷_, map}
 use mathlib.Core.Option.{Option, none, some}
-use mathlib.Core.Bool.{Bool, true, false, cond}
+use mathlib.Core.Bool.{Bool, true, false}
 use native.Mathlib.Omega.{arith}
 use Rattle.order.specs.declared.Ordering.{Ordering}
 use Rattle.order.specs.declared.Ordering.the-variants.{Less, Equal, Greater}
 use Rattle.order.specs.Comparison.{bytes}
-use Rattle.order.specs.Map.{Item, own, lookup, Below, Sorted}
-use Rattle.order.proofs.Comparison.{strings, AtMost, at-most-self, less≢equal, equal≢greater}
+use Rattle.order.specs.Map.{own, lookup, Below, Sorted}
+use Rattle.order.proofs.Comparison.{strings, AtMost, at-most-self}
 use Rattle.order.proofs.Map.{ext, absent-at}
 use Rattle.change.specs.Change.{Change, announce, withdraw, update}
 use Rattle.change.specs.Difference as change
@@ -19,13 +19,13 @@ use Rattle.field.specs.declared.tag.Form.the-variants.{Snapshot}
 use Rattle.payload.specs.Content.{Bytes}
 use Rattle.payload.specs.Valid.{IsMap}
 use Rattle.message.specs.Hear.{Told}
-use Rattle.message.specs.Take.{Taken, all, misfit, asItem, take}
+use Rattle.message.specs.Take.{all, misfit, asItem, take}
 use Rattle.message.proofs.Taking.{take-none, one-lookup, one-sorted}
-use Rattle.heard.specs.Place.{keyAt, sizeAt, announcesAt, toldAt, Payload, Messages, done, more}
+use Rattle.heard.specs.Place.{keyAt, sizeAt, toldAt, Payload, Messages, done, more}
 use Rattle.batch.specs.Next.{insert, sorted}
 use Rattle.judge.specs.Walk.{follows, settle, settled}
 use Rattle.judge.specs.Promise.{later}
-use Rattle.judge.proofs.Sorting.{most-apart, turned, Side, side, front, behind, Past, Ascends, InOrder, insert-end, insert-front, insert-behind, messages-past, sorted-all, first-past, sorted-end, sorted-more, sorted-order, Under, nothing, below, follows-same, follows-apart, under-apart}
+use Rattle.judge.proofs.Sorting.{most-apart, turned, Side, side, front, behind, Past, Ascends, InOrder, insert-end, insert-front, insert-behind, messages-past, sorted-all, first-past, sorted-end, sorted-more, sorted-order, below, follows-same, follows-apart, under-apart}
 use Rattle.judge.proofs.Records.{wrong, after, after-map, take-right, take-wrong}
 
 abbrev Said : Type 0

@@ -1,5 +1,4 @@
 -- What is promised of the messages that another cache sends, besides that they are taken one after another.
-use Prim.Native.Nat.{ℕ}
 use mathlib.Core.Path.{_≡_}
 use mathlib.Core.List.{List, [], _∷_, map}
 use mathlib.Core.Option.{Option, none, some}
@@ -21,7 +20,7 @@ use Rattle.message.specs.declared.version.Version.{Version}
 use Rattle.message.specs.Version.{speaks}
 use Rattle.message.specs.Say.{kindIn, spoken}
 use Rattle.message.specs.Hear.{Told, hear}
-use Rattle.message.specs.Take.{Taken, all, asItem, take}
+use Rattle.message.specs.Take.{all, asItem, take}
 
 -- the later of two words on a key
 abbrev pub later : Option (Change Bytes) → Option (Change Bytes) → Option (Change Bytes)
