@@ -72,6 +72,10 @@ side Greater = behind refl
 abbrev pub Past : ℕ → List ℕ → Type 0
 Past x = All (λ (y : ℕ). x < y)
 
+pub past-all : (x : ℕ) (ys : List ℕ) → Past x ys → Past 0 ys
+past-all x [] p = tt
+past-all x (y ∷ ys) p = (omega (arith, p .0), past-all x ys (p .1))
+
 module _ (s : Bytes) where
   -- the records do not descend, from the one of `last` on
   abbrev pub Ascends : ℕ → List ℕ → Type 0
