@@ -3,6 +3,7 @@ pub mod Records
 pub mod Faults
 pub mod Settled
 pub mod Lengths
-pub mod Results
 pub mod Deciding
+pub mod Octets
+pub mod Results
 pub mod Examples
