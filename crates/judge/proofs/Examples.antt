@@ -3,15 +3,13 @@ use Prim.Native.Nat.{ℕ}
 use mathlib.Core.Path.{_≡_, refl}
 use mathlib.Core.List.{List, [], _∷_, _++_, map}
 use mathlib.Core.Option.{none, some}
-use mathlib.Core.Bool.{true, false}
 use lib.ListN.{replicate}
 use Rattle.order.specs.Map.{Item}
 use Rattle.order.specs.Walk.{walk}
-use Rattle.change.specs.Change.{Change, announce, withdraw}
+use Rattle.change.specs.Change.{Change, withdraw}
 use Rattle.change.specs.Difference as change
 use Rattle.payload.specs.Content.{Bytes}
 use Rattle.message.specs.declared.version.Version.the-variants.{Rfc8210}
-use Rattle.message.specs.Hear.{Told}
 use Rattle.message.specs.Take.{all, misfit, take}
 use Rattle.heard.specs.Place.{keyAt, toldAt, precedes}
 use Rattle.batch.specs.Next.{insert, sorted}

@@ -1,25 +1,23 @@
 -- The least fault of the messages in message order is the first misfit of the fold over them as they came.
-use Prim.Native.Nat.{ℕ, _+_, _<_, _≤_}
+use Prim.Native.Nat.{ℕ, _<_, _≤_}
 use mathlib.Core.Path.{_≡_, refl, sym, ap, _∙_}
 use mathlib.Core.List.{List, [], _∷_, map}
-use mathlib.Core.Bool.{Bool, true, false, not, cond, _&&_}
+use mathlib.Core.Bool.{Bool, true, false, cond, _&&_}
 use native.Mathlib.Omega.{arith}
 use lib.Dec.{ltb}
 use borrow.Author.Tests.{lt-ltb, le-ltb}
 use Rattle.order.specs.Comparison.{bytes}
-use Rattle.order.specs.declared.Ordering.the-variants.{Less, Equal, Greater}
 use Rattle.order.proofs.Comparison.{strings, AtMost, at-most-self, at-most-trans}
 use Rattle.change.specs.Difference as change
 use Rattle.field.specs.declared.tag.Form.the-variants.{Snapshot}
 use Rattle.payload.specs.Content.{Bytes}
 use Rattle.payload.specs.Valid.{IsMap}
-use Rattle.message.specs.Hear.{Told}
 use Rattle.message.specs.Take.{Taken, all, misfit, take}
 use Rattle.message.proofs.Taking.{take-none}
-use Rattle.heard.specs.Place.{keyAt, sizeAt, announcesAt, toldAt, Payload, Messages, done, more}
+use Rattle.heard.specs.Place.{keyAt, announcesAt, toldAt, Messages, done, more}
 use Rattle.batch.specs.Next.{insert, sorted}
 use Rattle.judge.specs.Walk.{has, follows, stands, isFault, lesser, leastFault}
-use Rattle.judge.proofs.Sorting.{between, less-apart, turned, Side, side, front, behind, Past, Ascends, InOrder, ascends-order, insert-end, insert-front, insert-behind, some-size, messages-stop, first-past, sorted-end, sorted-more, sorted-order, Under, nothing, below, follows-same, follows-apart, under-apart}
+use Rattle.judge.proofs.Sorting.{between, less-apart, turned, Side, side, front, behind, Past, past-all, Ascends, InOrder, ascends-order, insert-end, insert-front, insert-behind, some-size, messages-stop, first-past, sorted-end, sorted-more, sorted-order, Under, nothing, below, follows-same, follows-apart, under-apart}
 use Rattle.judge.proofs.Records.{wrong, after, after-map, after-same, has-other, take-right, take-wrong}
 
 -- ---- the walk's steps
@@ -68,10 +66,6 @@ module _ (A C : change.Snapshot Bytes Bytes) (s : Bytes) (x : ℕ) (other : (k :
         go true e = rw (← follows-same s x y e) (sym same)
         go false e = sym (other (keyAt s y) (λ q. follows-apart s x y pos e (sym q)))
 
-    past-none : (ys : List ℕ) → Past x ys → Past 0 ys
-    past-none [] p = tt
-    past-none (y ∷ ys) p = (omega (arith, p .0), past-none ys (p .1))
-
     pub right-inserted : (last least : ℕ) (ys : List ℕ) → Under s last x → InOrder s ys → Past x ys →
         leastFault A s last least (insert s x ys) ≡ leastFault C s last least ys
     right-inserted last least [] u a p =
@@ -92,7 +86,7 @@ module _ (A C : change.Snapshot Bytes Bytes) (s : Bytes) (x : ℕ) (other : (k :
               fault-more A s x least y ys,
               fault-more C s last least y ys,
               stands-next last y u f,
-            ) (sym (behind-same y (lesser (isFault C s last y) y least) ys pos-y f a (past-none ys (p .1))))
+            ) (sym (behind-same y (lesser (isFault C s last y) y least) ys pos-y f a (past-all x ys (p .1))))
         go (behind b) i =
             let l = turned (keyAt s x) (keyAt s y) b in
             rw (

@@ -1,5 +1,5 @@
 -- The length of what the messages leave: the snapshot's, with the fields announced and without the fields withdrawn.
-use Prim.Native.Nat.{ℕ, _+_, _<_}
+use Prim.Native.Nat.{ℕ, _+_}
 use mathlib.Core.Path.{_≡_, refl, sym, ap, _∙_}
 use mathlib.Core.List.{List, [], _∷_, _++_, map, append-nil}
 use mathlib.Core.Option.{Option, none, some}
@@ -13,7 +13,7 @@ use Rattle.order.specs.Map.{Item, own, lookup, Sorted}
 use Rattle.order.proofs.Comparison.{strings}
 use Rattle.order.proofs.Map.{none≢some, absent}
 use Rattle.order.proofs.Walk.{walk-nil, walk-right, walk-less, walk-equal, walk-greater}
-use Rattle.change.specs.Change.{Change, announce, withdraw}
+use Rattle.change.specs.Change.{announce, withdraw}
 use Rattle.change.specs.Difference as change
 use Rattle.change.specs.Application.{applyAt, apply}
 use Rattle.change.proofs.Whole.{apply-none}
@@ -22,10 +22,10 @@ use Rattle.field.specs.Cells as run
 use Rattle.payload.specs.Content.{Bytes}
 use Rattle.payload.specs.Valid.{IsMap}
 use Rattle.payload.specs.Payload.{encode}
-use Rattle.message.specs.Take.{Taken, all, misfit, asItem, take}
+use Rattle.message.specs.Take.{all, take}
 use Rattle.message.proofs.Taking.{take-none}
 use Rattle.heard.specs.Place.{keyAt, announcesAt, toldAt, Payload, Messages, done, more}
-use Rattle.judge.specs.Walk.{isSome, has}
+use Rattle.judge.specs.Walk.{isSome}
 use Rattle.judge.proofs.Records.{told-record, empty-at, wrong, after, after-map, take-right, take-wrong}
 use Rattle.judge.proofs.Settled.{misfit≢all}
 

@@ -3,8 +3,9 @@ pub mod Records
 pub mod Faults
 pub mod Settled
 pub mod Lengths
-pub mod Results
 pub mod Deciding
+pub mod Octets
+pub mod Results
 pub mod Examples
 pub mod Finding
 pub mod Checking

@@ -7,10 +7,10 @@ use mathlib.Core.Bool.{Bool, true, false, not, cond}
 use Rattle.order.specs.declared.Ordering.{Ordering}
 use Rattle.order.specs.declared.Ordering.the-variants.{Less, Equal, Greater}
 use Rattle.order.specs.Comparison.{bytes}
-use Rattle.order.specs.Map.{Item, All, own, lookup, Sorted}
+use Rattle.order.specs.Map.{All, own, lookup, Sorted}
 use Rattle.order.proofs.Comparison.{strings}
 use Rattle.order.proofs.Map.{none≢some}
-use Rattle.change.specs.Change.{Change, announce, withdraw}
+use Rattle.change.specs.Change.{announce, withdraw}
 use Rattle.change.specs.Difference as change
 use Rattle.change.specs.Application.{applyAt, apply, fits}
 use Rattle.field.specs.declared.tag.Form.the-variants.{Snapshot}
@@ -21,7 +21,7 @@ use Rattle.message.specs.Hear.{Told}
 use Rattle.message.specs.Take.{misfit, asItem, take}
 use Rattle.message.proofs.Taking.{one-lookup}
 use Rattle.message.proofs.Telling.{RouterRecord, anOrigin, aRouterKey, not-aspa, valid-record, Tells, tells-map}
-use Rattle.heard.specs.Place.{typeAt, keyAt, announcesAt, toldAt, Sized, Payload, v4, v6, key}
+use Rattle.heard.specs.Place.{keyAt, announcesAt, toldAt, Sized, Payload, v4, v6, key}
 use Rattle.judge.specs.Walk.{isSome, has}
 
 -- ---- the record

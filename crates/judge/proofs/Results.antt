@@ -16,9 +16,10 @@ use Rattle.change.specs.Change.{Change}
 use Rattle.change.specs.Difference as change
 use Rattle.change.specs.Difference.{diff}
 use Rattle.change.specs.Application.{applyAt, apply, fits, fitsAt, Applies}
-use Rattle.change.proofs.Whole.{apply-sorted, apply-lookup, diff-sorted, diff-lookup, applies, yields}
+use Rattle.change.proofs.Whole.{apply-sorted, apply-lookup, diff-sorted, applies, yields}
 use Rattle.field.specs.declared.tag.Form.the-variants.{Snapshot}
 use Rattle.field.specs.Cells as run
+use Rattle.field.specs.Run.{AllBytes}
 use Rattle.payload.specs.Content.{Bytes}
 use Rattle.payload.specs.Valid.{IsMap}
 use Rattle.payload.specs.Payload.{encode, items, changes}
@@ -31,11 +32,12 @@ use Rattle.message.specs.declared.version.Version.{Version}
 use Rattle.message.specs.Version.{speaks}
 use Rattle.message.specs.Say.{kindIn, spoken}
 use Rattle.message.specs.Hear.{Told, hear}
-use Rattle.message.specs.Take.{Taken, all, misfit, asItem, take}
-use Rattle.message.proofs.Taking.{take-none, take-fits, take-applies, one-lookup, one-sorted}
+use Rattle.message.specs.Take.{all, misfit, asItem, take}
+use Rattle.message.proofs.Taking.{take-applies, one-lookup, one-sorted}
 use Rattle.message.proofs.Telling.{not-aspa, Tells, tells-map, hear-tells}
 use Rattle.message.proofs.Spoken.{kept, kept-lookup, kept-sorted, spoken-lookup, spoken-sorted}
-use Rattle.judge.specs.Promise.{later, lastWord, unspoken, Leave, Say, LeadOn, Promise}
+use Rattle.judge.specs.Promise.{later, lastWord, unspoken, Leave, Say, LeadOn, Outcome, Promise}
+use Rattle.judge.proofs.Octets.{ItemBytes, encode-bytes, items-bytes, TellsBytes, taken-bytes, hear-told}
 use Rattle.judge.proofs.Settled.{misfit≢all, two-changes}
 
 -- ---- along the fold
@@ -177,20 +179,21 @@ unfolding encode run.encode
 empty-good = record { octets = λ i. omega arith; fine = faithful Snapshot .good-bytes [] (record { sorted = tt; valid = tt }) }
 
 pub promise : (v : Version) → Promise v
-promise v =
-    record {
-      good = λ snapshot messages B g e. faithful Snapshot .good-bytes B (result snapshot messages B g e);
-      says = λ snapshot messages B g e. faithful Snapshot .map-back B (result snapshot messages B g e);
-      last-word = λ snapshot messages B g e k. taken-word k (items snapshot) B (hear v messages .told) (good-map snapshot g .sorted) e;
-      aspas-stay = λ snapshot messages B g e k z.
-          taken-word k (items snapshot) B (hear v messages .told) (good-map snapshot g .sorted) e
-          ∙ ap (applyAt (lookup bytes k (items snapshot))) (no-word k (hear v messages .told) (hear-tells v messages) z);
-      delta-taken = onward;
-      full-taken = full;
-    }
+promise v = record { outcome = out; delta-taken = onward; full-taken = full }
   where
-    result : (snapshot messages : Bytes) (B : change.Snapshot Bytes Bytes) → GoodSnapshot snapshot → Leave v snapshot messages B → IsMap Snapshot B
-    result snapshot messages B g e = taken-map (items snapshot) B (hear v messages .told) (hear-tells v messages) (good-map snapshot g) e
+    out : (snapshot messages : Bytes) (B : change.Snapshot Bytes Bytes) → GoodSnapshot snapshot → AllBytes messages → Leave v snapshot messages B → Outcome v snapshot messages B
+    out snapshot messages B g o e =
+        let m : IsMap Snapshot B = taken-map (items snapshot) B (hear v messages .told) (hear-tells v messages) (good-map snapshot g) e in
+        let b : All ItemBytes B
+        = taken-keeps (All ItemBytes) TellsBytes taken-bytes (items snapshot) B (hear v messages .told) (hear-told v messages o) (items-bytes snapshot (g .octets) (g .fine)) e in
+        let word : (k : Bytes) → lookup bytes k B ≡ applyAt (lookup bytes k (items snapshot)) (lastWord k (hear v messages .told))
+        = λ k. taken-word k (items snapshot) B (hear v messages .told) (good-map snapshot g .sorted) e in
+        record {
+          good = record { octets = encode-bytes B b; fine = faithful Snapshot .good-bytes B m };
+          says = faithful Snapshot .map-back B m;
+          last-word = word;
+          aspas-stay = λ k z. word k ∙ ap (applyAt (lookup bytes k (items snapshot))) (no-word k (hear v messages .told) (hear-tells v messages) z);
+        }
 
     onward : (base current messages : Bytes) → GoodSnapshot base → GoodSnapshot current → Say v messages (changes (differenceOf base current)) → LeadOn v base current messages
     onward base current messages g h e =

@@ -1,15 +1,15 @@
 -- What the messages in message order leave is what the fold over them as they came leaves.
-use Prim.Native.Nat.{ℕ, _+_, _<_, _≤_}
-use mathlib.Core.Path.{_≡_, refl, sym, ap, _∙_}
+use Prim.Native.Nat.{ℕ, _+_, _<_}
+use mathlib.Core.Path.{_≡_, refl, sym, _∙_}
 use mathlib.Core.List.{List, [], _∷_, map}
 use mathlib.Core.Option.{Option, none, some}
-use mathlib.Core.Bool.{Bool, true, false, cond}
+use mathlib.Core.Bool.{Bool, true, false}
 use native.Mathlib.Omega.{arith}
 use Rattle.order.specs.declared.Ordering.{Ordering}
 use Rattle.order.specs.declared.Ordering.the-variants.{Less, Equal, Greater}
 use Rattle.order.specs.Comparison.{bytes}
-use Rattle.order.specs.Map.{Item, own, lookup, Below, Sorted}
-use Rattle.order.proofs.Comparison.{strings, AtMost, at-most-self, less≢equal, equal≢greater}
+use Rattle.order.specs.Map.{own, lookup, Below, Sorted}
+use Rattle.order.proofs.Comparison.{strings, AtMost, at-most-self}
 use Rattle.order.proofs.Map.{ext, absent-at}
 use Rattle.change.specs.Change.{Change, announce, withdraw, update}
 use Rattle.change.specs.Difference as change
@@ -19,13 +19,13 @@ use Rattle.field.specs.declared.tag.Form.the-variants.{Snapshot}
 use Rattle.payload.specs.Content.{Bytes}
 use Rattle.payload.specs.Valid.{IsMap}
 use Rattle.message.specs.Hear.{Told}
-use Rattle.message.specs.Take.{Taken, all, misfit, asItem, take}
+use Rattle.message.specs.Take.{all, misfit, asItem, take}
 use Rattle.message.proofs.Taking.{take-none, one-lookup, one-sorted}
-use Rattle.heard.specs.Place.{keyAt, sizeAt, announcesAt, toldAt, Payload, Messages, done, more}
+use Rattle.heard.specs.Place.{keyAt, sizeAt, toldAt, Payload, Messages, done, more}
 use Rattle.batch.specs.Next.{insert, sorted}
 use Rattle.judge.specs.Walk.{follows, settle, settled}
 use Rattle.judge.specs.Promise.{later}
-use Rattle.judge.proofs.Sorting.{most-apart, turned, Side, side, front, behind, Past, Ascends, InOrder, insert-end, insert-front, insert-behind, messages-past, sorted-all, first-past, sorted-end, sorted-more, sorted-order, Under, nothing, below, follows-same, follows-apart, under-apart}
+use Rattle.judge.proofs.Sorting.{most-apart, turned, Side, side, front, behind, Past, past-all, Ascends, InOrder, insert-end, insert-front, insert-behind, messages-past, sorted-all, first-past, sorted-end, sorted-more, sorted-order, below, follows-same, follows-apart, under-apart}
 use Rattle.judge.proofs.Records.{wrong, after, after-map, take-right, take-wrong}
 
 abbrev Said : Type 0
@@ -120,10 +120,6 @@ module _ (s : Bytes) where
     own-later Equal c m n = refl
     own-later Greater c m n = refl
 
-    past-none : (ys : List ℕ) → Past x ys → Past 0 ys
-    past-none [] p = tt
-    past-none (y ∷ ys) p = (omega (arith, p .0), past-none ys (p .1))
-
     settle-inserted : (last : ℕ) (ys : List ℕ) → 0 < last → bytes (keyAt s last) (keyAt s x) ≡ Less → Past x ys → Ascends s last ys →
         lookup bytes k (settle s last (insert s x ys)) ≡ later (lookup bytes k (settle s last ys)) (saysAt s k x none)
     settle-inserted last [] l u p a =
@@ -148,7 +144,7 @@ module _ (s : Bytes) where
             rw (
               insert-front s x y ys (p .0) f,
               settle-other last x (y ∷ ys) (under-apart s last x x (below l u) (at-most-self strings (keyAt s x))),
-              next-says y ys pos-y (past-none ys (p .1)) (a .1) f,
+              next-says y ys pos-y (past-all x ys (p .1)) (a .1) f,
               settle-other last y ys (under-apart s last x y (below l u) f),
             ) (own-later (bytes k (keyAt s last)) (toldAt s last .change) (lookup bytes k (settle s y ys)) (saysAt s k x none))
         go (behind b) i = rw (insert-behind s x y ys b) (split (follows s last y) refl (i (turned (keyAt s x) (keyAt s y) b)))
@@ -160,7 +156,7 @@ module _ (s : Bytes) where
       where
         go : Side (bytes (keyAt s x) (keyAt s y)) → lookup bytes k (settled s (insert s x (y ∷ ys))) ≡ later (lookup bytes k (settled s (y ∷ ys))) (saysAt s k x none)
         go (front f) = rw (insert-front s x y ys (p .0) f, settled-more x (y ∷ ys), settled-more y ys)
-            (next-says y ys (omega (arith, p .0)) (past-none ys (p .1)) a f)
+            (next-says y ys (omega (arith, p .0)) (past-all x ys (p .1)) a f)
         go (behind b) = rw (insert-behind s x y ys b, settled-more y (insert s x ys), settled-more y ys)
             (settle-inserted y ys (omega (arith, p .0)) (turned (keyAt s x) (keyAt s y) b) (p .1) a)
 

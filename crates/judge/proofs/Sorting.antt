@@ -1,19 +1,19 @@
 -- Offsets in message order: a message goes in front of the later ones of its record.
 use Prim.Native.Nat.{ℕ, _+_, _<_, _≤_}
-use mathlib.Core.Path.{_≡_, refl, sym, ap, _∙_}
+use mathlib.Core.Path.{_≡_, refl, ap, _∙_}
 use mathlib.Core.List.{List, [], _∷_}
 use mathlib.Core.Bool.{Bool, true, false, cond}
 use native.Mathlib.Omega.{arith}
 use lib.Dec.{eqb}
-use borrow.Author.Tests.{lt-ltb, eq-eqb, ne-eqb}
+use borrow.Author.Tests.{lt-ltb, ne-eqb}
 use Rattle.order.specs.declared.Ordering.{Ordering}
 use Rattle.order.specs.declared.Ordering.the-variants.{Less, Equal, Greater}
 use Rattle.order.specs.Comparison.{bytes, flip}
 use Rattle.order.specs.Map.{All}
-use Rattle.order.proofs.Comparison.{strings, AtMost, at-most-self, at-most-trans, less≢equal, less≢greater, equal≢greater}
+use Rattle.order.proofs.Comparison.{strings, AtMost, less≢equal, less≢greater, equal≢greater}
 use Rattle.change.specs.Application.{isEqual}
 use Rattle.payload.specs.Content.{Bytes}
-use Rattle.heard.specs.Place.{keyAt, sizeAt, Sized, Payload, Messages, precedes, before, v4, v6, key, done, more}
+use Rattle.heard.specs.Place.{keyAt, sizeAt, Sized, Payload, Messages, precedes, v4, v6, key, done, more}
 use Rattle.batch.specs.Next.{insert, sorted}
 use Rattle.judge.specs.Walk.{follows}
 
@@ -71,6 +71,10 @@ side Greater = behind refl
 -- each offset is past x
 abbrev pub Past : ℕ → List ℕ → Type 0
 Past x = All (λ (y : ℕ). x < y)
+
+pub past-all : (x : ℕ) (ys : List ℕ) → Past x ys → Past 0 ys
+past-all x [] p = tt
+past-all x (y ∷ ys) p = (omega (arith, p .0), past-all x ys (p .1))
 
 module _ (s : Bytes) where
   -- the records do not descend, from the one of `last` on

@@ -1,5 +1,4 @@
--- What is promised of the messages that another cache sends, besides that they are taken one after another.
-use Prim.Native.Nat.{ℕ}
+-- What comes of the messages that another cache sends, taken one after another.
 use mathlib.Core.Path.{_≡_}
 use mathlib.Core.List.{List, [], _∷_, map}
 use mathlib.Core.Option.{Option, none, some}
@@ -11,8 +10,7 @@ use Rattle.change.specs.Change.{Change}
 use Rattle.change.specs.Difference as change
 use Rattle.change.specs.Application.{applyAt}
 use Rattle.field.specs.declared.tag.Form.the-variants.{Snapshot}
-use Rattle.field.specs.declared.verdict.Verdict.the-variants.{Fine}
-use Rattle.field.specs.Verdict.{verdict}
+use Rattle.field.specs.Run.{AllBytes}
 use Rattle.payload.specs.Content.{Bytes}
 use Rattle.payload.specs.Payload.{encode, items, changes}
 use Rattle.delta.specs.Answer.{differenceOf}
@@ -21,7 +19,7 @@ use Rattle.message.specs.declared.version.Version.{Version}
 use Rattle.message.specs.Version.{speaks}
 use Rattle.message.specs.Say.{kindIn, spoken}
 use Rattle.message.specs.Hear.{Told, hear}
-use Rattle.message.specs.Take.{Taken, all, asItem, take}
+use Rattle.message.specs.Take.{all, asItem, take}
 
 -- the later of two words on a key
 abbrev pub later : Option (Change Bytes) → Option (Change Bytes) → Option (Change Bytes)
@@ -55,18 +53,21 @@ pub record LeadOn (v : Version) (base current messages : Bytes) : Type 0 where
   -- so where base and current agree in these, they leave the current one, byte for byte
   pub whole : unspoken v (items base) ≡ unspoken v (items current) → encode Snapshot result ≡ current
 
--- whoever made the messages, in any version
-pub record Promise (v : Version) : Type 0 where
-  -- what all messages leave of a good snapshot is one
-  pub good : (snapshot messages : Bytes) (B : change.Snapshot Bytes Bytes) → GoodSnapshot snapshot → Leave v snapshot messages B → verdict Snapshot (encode Snapshot B) ≡ Fine
-  -- whose items are these
-  pub says : (snapshot messages : Bytes) (B : change.Snapshot Bytes Bytes) → GoodSnapshot snapshot → Leave v snapshot messages B → items (encode Snapshot B) ≡ B
+-- what B is then
+pub record Outcome (v : Version) (snapshot messages : Bytes) (B : change.Snapshot Bytes Bytes) : Type 0 where
+  -- its bytes are a good snapshot, which says it
+  pub good : GoodSnapshot (encode Snapshot B)
+  pub says : items (encode Snapshot B) ≡ B
   -- at each key the last message counts; where there is none, what stood there stays
-  pub last-word : (snapshot messages : Bytes) (B : change.Snapshot Bytes Bytes) → GoodSnapshot snapshot → Leave v snapshot messages B →
-      (k : Bytes) → lookup bytes k B ≡ applyAt (lookup bytes k (items snapshot)) (lastWord k (hear v messages .told))
+  pub last-word : (k : Bytes) → lookup bytes k B ≡ applyAt (lookup bytes k (items snapshot)) (lastWord k (hear v messages .told))
   -- our ASPAs (kind 3) stay
-  pub aspas-stay : (snapshot messages : Bytes) (B : change.Snapshot Bytes Bytes) → GoodSnapshot snapshot → Leave v snapshot messages B →
-      (k : Bytes) → getD k 0 0 ≡ 3 → lookup bytes k B ≡ lookup bytes k (items snapshot)
+  pub aspas-stay : (k : Bytes) → getD k 0 0 ≡ 3 → lookup bytes k B ≡ lookup bytes k (items snapshot)
+
+-- in every version
+pub record Promise (v : Version) : Type 0 where
+  -- whoever made the messages: what they leave of a good snapshot, if all are taken
+  pub outcome : (snapshot messages : Bytes) (B : change.Snapshot Bytes Bytes) → GoodSnapshot snapshot → AllBytes messages → Leave v snapshot messages B →
+      Outcome v snapshot messages B
   -- messages that say the difference of two good snapshots are all taken on the first, and lead on to the second
   pub delta-taken : (base current messages : Bytes) → GoodSnapshot base → GoodSnapshot current → Say v messages (changes (differenceOf base current)) →
       LeadOn v base current messages

@@ -1,7 +1,7 @@
 -- One message after another is the whole delta at once.
 use mathlib.Core.Path.{_≡_, refl, sym, ap, _∙_}
 use mathlib.Core.List.{List, [], _∷_, map}
-use mathlib.Core.Option.{Option, none, some}
+use mathlib.Core.Option.{none, some}
 use mathlib.Core.Bool.{true}
 use Rattle.order.specs.declared.Ordering.{Ordering}
 use Rattle.order.specs.declared.Ordering.the-variants.{Less, Equal, Greater}
@@ -16,7 +16,7 @@ use Rattle.change.proofs.Whole.{apply-sorted, apply-lookup, apply-none}
 use Rattle.change.proofs.Items.{applies-head, applies-tail}
 use Rattle.payload.specs.Content.{Bytes}
 use Rattle.message.specs.Hear.{Told}
-use Rattle.message.specs.Take.{Taken, all, misfit, asItem, take}
+use Rattle.message.specs.Take.{all, asItem, take}
 
 -- ---- the steps of the fold
 

@@ -1,7 +1,7 @@
 -- What is heard: each message tells of a good record of an origin or a router key, announced or withdrawn.
 use Prim.Native.Nat.{ℕ, zero, suc, _+_}
-use mathlib.Core.Path.{_≡_, refl, sym, ap, _∙_}
-use mathlib.Core.List.{List, [], _∷_}
+use mathlib.Core.Path.{_≡_, refl}
+use mathlib.Core.List.{[], _∷_}
 use mathlib.Core.Bool.{Bool, true, false, cond}
 use native.Mathlib.Omega.{arith}
 use lib.Dec.{eqb}
@@ -14,7 +14,7 @@ use Rattle.payload.specs.Content.{Bytes}
 use Rattle.payload.specs.Valid.{ValidValue, ValidChange, IsMap, origin, routerKey, announced, withdrawn}
 use Rattle.message.specs.declared.version.Version.{Version}
 use Rattle.message.specs.Message.{Message, serialNotify, serialQuery, cacheResponse, ipv4Prefix, ipv6Prefix, endOfData, cacheReset, routerKey as routerKeyMessage, errorReport}
-use Rattle.message.specs.Record.{Part, opening, payload, ending, misplaced, goodRecord, flagged, payloadOf, partOf}
+use Rattle.message.specs.Record.{Part, opening, payload, ending, misplaced, goodRecord, payloadOf, partOf}
 use Rattle.message.specs.Read.{Front, unread, read, front}
 use Rattle.message.specs.Hear.{Told, hearPart, hearFront, hearF, openPart, openFront, hear}
 use Rattle.message.specs.Take.{asItem}
