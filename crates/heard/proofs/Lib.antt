@@ -7,3 +7,4 @@ pub mod Summing
 pub mod Checking
 pub mod Reading
 pub mod Hearing
+pub mod Examples
