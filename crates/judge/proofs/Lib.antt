@@ -7,6 +7,7 @@ pub mod Deciding
 pub mod Octets
 pub mod Results
 pub mod Examples
+pub mod Answers
 pub mod Finding
 pub mod Checking
 pub mod Leaving
