@@ -1,2 +1,4 @@
 // The payload messages of an answer in message order, a batch at a time.
+pub mod collect;
 pub mod next;
+pub mod sort;

@@ -1,0 +1,9 @@
+pub mod Sorting
+pub mod Records
+pub mod Faults
+pub mod Settled
+pub mod Lengths
+pub mod Deciding
+pub mod Octets
+pub mod Results
+pub mod Examples
