@@ -7,3 +7,11 @@ pub mod Deciding
 pub mod Octets
 pub mod Results
 pub mod Examples
+pub mod Answers
+pub mod Finding
+pub mod Checking
+pub mod Leaving
+pub mod Faulting
+pub mod Writing
+pub mod Putting
+pub mod Judging
