@@ -6,3 +6,4 @@ pub mod Collecting
 pub mod Bounding
 pub mod Leaving
 pub mod Surveying
+pub mod Examples
