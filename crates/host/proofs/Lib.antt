@@ -1,3 +1,4 @@
 pub mod Flattening
 pub mod Telling
+pub mod Judging
 pub mod Running

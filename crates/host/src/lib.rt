@@ -1,5 +1,6 @@
 // The C interface: numbers, byte slices and structs by value.
 pub mod answer;
 pub mod calls;
+pub mod judged;
 pub mod state;
 pub mod told;
