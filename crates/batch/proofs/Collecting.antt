@@ -1,5 +1,5 @@
 -- Laws of the walk that collects messages.
-use Prim.Native.Nat.{ℕ, zero, suc, _+_, _-_, _≤_, _<_}
+use Prim.Native.Nat.{ℕ, zero, suc, _+_, _*_, _-_, _≤_, _<_}
 use mathlib.Core.Path.{_≡_, refl, sym, ap, _∙_}
 use mathlib.Core.List.{List, [], _∷_, _++_}
 use mathlib.Core.Bool.{Bool, true, false, not, cond, _&&_}
@@ -15,13 +15,16 @@ use borrow.Author.Tests.{eqb-true, eqb-false, eq-eqb, ne-eqb}
 use Rattle.payload.specs.Content.{Bytes}
 use Rattle.heard.specs.Place.{Messages, done, more, Payload, sizeAt, precedes}
 use Rattle.batch.specs.declared.collect.Part.{Part}
+use Rattle.batch.specs.declared.collect.Gap.{Gap}
 use Rattle.batch.specs.declared.next.Batch.{Batch}
 use Rattle.batch.specs.Next.{sorted, isAbove, left, NextIs}
-use Rattle.batch.specs.Keep.{only, isUpTo, isWanted, In, Bound, none, one, Held, SortedIs, FirstSorted, Told, Trims, Trimmed, kept, cut, TopIs, all, Collected}
+use Rattle.batch.specs.Keep.{only, isUpTo, isWanted, In, Bound, none, one, Held, SortedIs, FirstSorted, Told, Trims, Trimmed, kept, cut, Takes, Taken, TopIs, all, Collected}
 use Rattle.batch.specs.Keep as keep
-use Rattle.batch.proofs.Precede.{true≢false}
+use Rattle.batch.specs.Map.{Hint, Hinted, Chunk, Marked, Tops, Clears, Clear, Skips, Passes}
+use Rattle.batch.specs.Map as map
+use Rattle.batch.proofs.Precede.{true≢false, not-above-trans}
 use Rattle.batch.proofs.Sorting.{all-at, sorted-more, only-sorted, length-sorted, insert-comm}
-use Rattle.batch.proofs.Keeping.{size-some, messages-ahead, messages-from, messages-grow, messages-good, messages-append, messages-same, in-all, in-append, wanted-is, wanted-all, upto-all, upto-self, only-more, only-past, only-length, only-same, above-only, fall-top, lower-again, part-first, part-shorter}
+use Rattle.batch.proofs.Keeping.{size-some, messages-ahead, messages-from, messages-grow, messages-good, messages-append, messages-same, in-all, in-append, wanted-is, wanted-all, wanted-not, wanted-past, messages-split, only-clear, upto-all, upto-self, only-more, only-past, only-length, only-same, above-only, fall-top, lower-again, part-first, part-shorter}
 
 -- ---- is_above, is_up_to, is_wanted
 
@@ -77,9 +80,119 @@ module _ (s : Bytes) (l : List ℕ) (n : ℕ) (h : Trims s l n) where
 
 pub ruleset trimming = (trim-none, trim-held, trim-long, trim-in, trim-cut)
 
+-- ---- take_in
+
+module _ (s : Bytes) (low at : ℕ) (l : List ℕ) (p : Part) (t : Takes s low at l p) where
+  pub take-low : Bound s low
+  take-low = t .low-bound
+
+  pub take-top : Bound s (p .top)
+  take-top = t .top-bound
+
+  pub take-good : Payload s at
+  take-good = t .good
+
+  pub take-room : p .n < 6_000
+  take-room = t .room
+
+  pub take-within : p .n < length l
+  take-within = omega (arith, t .room, t .len)
+
+  pub take-trims : Trims s (set l (p .n) at) (p .n + 1)
+  take-trims = record { long = length-set l (p .n) at ∙ t .len; few = omega (arith, t .room); held = λ k q. go k q (ℕ-discrete k (p .n)) }
+    where
+      go : (k : ℕ) → k < p .n + 1 → Dec (k ≡ p .n) → Payload s (getD (set l (p .n) at) k 0)
+      go k q (yes d) = rw (d, getD-set-same l (p .n) at 0 take-within) (t .good)
+      go k q (no d) = rw (getD-set-other l (p .n) k at 0 d) (t .held k (omega arith))
+
+  module _ (r : Bool) (f : r ≡ isWanted s low (p .top) at) where
+    pub take-passed : r ≡ false → Taken s low at l p l p
+    take-passed g = keep.passed (sym f ∙ g) refl refl
+
+    pub take-taken : r ≡ true → (m : List ℕ) (q : Part) → Trimmed s (set l (p .n) at) (p .n + 1) (p .top) m q → Taken s low at l p m q
+    take-taken g m q z = keep.taken (sym f ∙ g) z
+
+pub ruleset takings = (take-low, take-top, take-good, take-room, take-within, take-trims, take-passed, take-taken)
+
+-- ---- is_clear, pass
+
+module _ (s : Bytes) (low top least most : ℕ) (r : Bool) (e : r ≡ isAbove s low most) where
+  pub clear-by : (t : Bool) → r ≡ true → t ≡ isUpTo s top least → Clear s low top least most (not t)
+  clear-by true f g = map.unsure
+  clear-by false f g = map.behind (sym g)
+
+  pub clear-low : r ≡ false → Clear s low top least most true
+  clear-low f = map.before (sym e ∙ f)
+
+module _ (s : Bytes) (low top least most : ℕ) (h : Clears s low top least most) where
+  pub clear-below : Bound s low
+  clear-below = h .low-bound
+
+  pub clear-top : Bound s top
+  clear-top = h .top-bound
+
+  pub clear-least : Payload s least
+  clear-least = h .least-good
+
+  pub clear-most : Payload s most
+  clear-most = h .most-good
+
+pub ruleset clearing = (clear-by, clear-low, clear-below, clear-top, clear-least, clear-most)
+
+-- no message of a clear chunk is wanted
+clear-of : (s : Bytes) (low top least most : ℕ) (r : Bool) → Clear s low top least most r → r ≡ true →
+    (x : ℕ) → precedes s x least ≡ false → precedes s most x ≡ false → isWanted s low top x ≡ false
+clear-of s low top least most r map.unsure e x p q = true≢false e refl
+clear-of s low top least most r (map.before f) e x p q = wanted-not s low top x (go (ℕ-discrete low 0))
+  where
+    go : Dec (low ≡ 0) → isAbove s low x ≡ false
+    go (yes z) = true≢false (sym (above-all s low most z)) f
+    go (no z) = sym (above-some s low x (precedes s low x) z refl) ∙ not-above-trans s x most low q (above-some s low most (precedes s low most) z refl ∙ f)
+clear-of s low top least most r (map.behind f) e x p q = wanted-past s low top x (go (ℕ-discrete top 0))
+  where
+    go : Dec (top ≡ 0) → isUpTo s top x ≡ false
+    go (yes z) = true≢false (sym (upto-none s top least z)) f
+    go (no z) = case (precedes s top x) refl
+      where
+        case : (b : Bool) → precedes s top x ≡ b → isUpTo s top x ≡ false
+        case true g = sym (upto-some s top x (precedes s top x) z refl) ∙ ap not g
+        case false g = true≢false (sym (upto-some s top least (precedes s top least) z refl) ∙ ap not (not-above-trans s least x top p g)) f
+
+pub pass-stay : (s : Bytes) (stop low top at c : ℕ) → Passes s stop low top at (record { at = at; chunk = c })
+pass-stay s stop low top at c = map.stay refl
+
+module _ (s : Bytes) (stop c at over least most low top : ℕ) (k : Skips s stop c at over least most low top) where
+  pub skip-small : c < 128
+  skip-small = k .small
+
+  pub skip-clears : Clears s low top least most
+  skip-clears = k .clears
+
+  pub skip-go : (r : Bool) → Clear s low top least most r → r ≡ true → Passes s stop low top at (record { at = over; chunk = c + 1 })
+  skip-go r d f =
+      map.go (k .chunk .cs) (k .chunk .messages) (k .chunk .within) (λ x i. clear-of s low top least most r d f x (k .chunk .lowest x i) (k .chunk .highest x i))
+
+pub ruleset skipping = (pass-stay, skip-small, skip-clears, skip-go)
+
+module _ (s : Bytes) (stop : ℕ) (marks : List ℕ) (k : Marked s stop marks) where
+  pub pass-long : length marks ≡ 512
+  pass-long = k .long
+
+  pub pass-skips : (c at low top : ℕ) → c < 128 → getD marks (4 * c) 0 ≡ at → 8 ≤ at → Bound s low → Bound s top →
+      Skips s stop c at (getD marks (4 * c + 1) 0) (getD marks (4 * c + 2) 0) (getD marks (4 * c + 3) 0) low top
+  pass-skips c at low top h e g a b =
+      let d = k .each c h (λ z. omega (arith, e)) in
+      record {
+        small = h;
+        clears = record { low-bound = a; top-bound = b; least-good = d .least-good; most-good = d .most-good };
+        chunk = rw e at d;
+      }
+
+pub ruleset passing = (pass-stay, pass-long, pass-skips)
+
 -- ---- collect: the messages before `at` are walked
 
-pub record Collecting (s : Bytes) (stop low : ℕ) (l : List ℕ) (p : Part) (at : ℕ) : Type 0 where
+pub record Collecting (s : Bytes) (stop low : ℕ) (marks l : List ℕ) (p : Part) (at : ℕ) : Type 0 where
   pub xs : List ℕ
   pub messages : Messages s 8 xs stop
   pub ps : List ℕ
@@ -87,14 +200,21 @@ pub record Collecting (s : Bytes) (stop low : ℕ) (l : List ℕ) (p : Part) (at
   pub behind : Messages s 8 ps at
   pub ahead : Messages s at rest stop
   pub low-bound : Bound s low
+  pub marked : Marked s stop marks
   pub len : length l ≡ 6_000
   pub room : p .n < 6_000
   pub held : (k : ℕ) → k < p .n → Payload s (getD l k 0)
   pub is : sorted s (take (p .n) l) ≡ sorted s (only (isWanted s low (p .top)) ps)
   pub top : TopIs s xs low (p .top)
 
-pub collect-start : (s : Bytes) (stop low : ℕ) (l : List ℕ) → Told s stop low → length l ≡ 6_000 → Collecting s stop low l (record { n = 0; top = 0 }) 8
-collect-start s stop low l t e = record {
+start-top : (s : Bytes) (stop low first : ℕ) (xs : List ℕ) → Messages s 8 xs stop → Tops s stop low first → TopIs s xs low first
+start-top s stop low first xs m (map.all e) = all e
+start-top s stop low first xs m (map.one h e) = keep.one (h .among xs m) e
+
+pub collect-start : (s : Bytes) (stop low first : ℕ) (marks l : List ℕ) → Told s stop low → Tops s stop low first → Marked s stop marks → length l ≡ 6_000 →
+    Collecting s stop low marks l (record { n = 0; top = first }) 8
+collect-start s stop low first marks l t o k e = record {
+  marked = k;
   xs = t .xs;
   messages = t .messages;
   ps = [];
@@ -106,7 +226,7 @@ collect-start s stop low l t e = record {
   room = omega arith;
   held = λ k h. absurd (omega arith);
   is = refl;
-  top = all refl;
+  top = start-top s stop low first (t .xs) (t .messages) o;
 }
 
 first-good : {s : Bytes} {at stop : ℕ} {xs : List ℕ} → Messages s at xs stop → at < stop → Payload s at
@@ -122,7 +242,31 @@ past : {s : Bytes} {at stop : ℕ} {xs : List ℕ} → Messages s at xs stop →
 past done h = absurd (omega arith)
 past (more {xs = xs} p m) h = record { rest = xs; ahead = m }
 
-module _ (s : Bytes) (stop low : ℕ) (l : List ℕ) (p : Part) (at : ℕ) (t : Collecting s stop low l p at) where
+module _ (s : Bytes) (stop low : ℕ) (marks l : List ℕ) (p : Part) (at : ℕ) (t : Collecting s stop low marks l p at) where
+  pub collect-marked : Marked s stop marks
+  collect-marked = t .marked
+
+  pub collect-eight : 8 ≤ at
+  collect-eight = messages-ahead (t .behind)
+
+  pub collect-pass : (g : Gap) → Passes s stop low (p .top) at g → at < g .at → Collecting s stop low marks l p (g .at)
+  collect-pass g (map.stay e) h = absurd (omega (arith, e))
+  collect-pass g (map.go cs m w f) h = record {
+    xs = t .xs;
+    messages = t .messages;
+    ps = t .ps ++ cs;
+    rest = messages-split m (t .ahead) w .rest;
+    behind = messages-append (t .behind) m;
+    ahead = messages-split m (t .ahead) w .ahead;
+    low-bound = t .low-bound;
+    marked = t .marked;
+    len = t .len;
+    room = t .room;
+    held = t .held;
+    is = t .is ∙ ap (sorted s) (sym (only-clear (isWanted s low (p .top)) (t .ps) cs f));
+    top = t .top;
+  }
+
   pub collect-low : Bound s low
   collect-low = t .low-bound
 
@@ -152,97 +296,92 @@ module _ (s : Bytes) (stop low : ℕ) (l : List ℕ) (p : Part) (at : ℕ) (t : 
     walked : Messages s 8 (t .ps ++ (at ∷ [])) (at + sizeAt s at)
     walked = messages-append (t .behind) (more collect-good done)
 
-    module _ (size : ℕ) (e : size ≡ sizeAt s at) (r : Bool) (f : r ≡ isWanted s low (p .top) at) where
-      pub collect-skip : r ≡ false → Collecting s stop low l p (at + size)
-      collect-skip g = record {
-        xs = t .xs;
-        messages = t .messages;
-        ps = t .ps ++ (at ∷ []);
-        rest = past (t .ahead) h .rest;
-        behind = rw e walked;
-        ahead = rw e (past (t .ahead) h .ahead);
-        low-bound = t .low-bound;
-        len = t .len;
-        room = t .room;
-        held = t .held;
-        is = t .is ∙ ap (sorted s) (sym (only-past (isWanted s low (p .top)) (t .ps) at (sym f ∙ g)));
-        top = t .top;
-      }
+    pushed : isWanted s low (p .top) at ≡ true → sorted s (take (p .n + 1) (set l (p .n) at)) ≡ sorted s (only (isWanted s low (p .top)) (t .ps ++ (at ∷ [])))
+    pushed f =
+        rw (
+          add-one (p .n),
+          take-suc-set l (p .n) at collect-in,
+          only-more (isWanted s low (p .top)) (t .ps) at f,
+          sorted-more s (take (p .n) l) at,
+          sorted-more s (only (isWanted s low (p .top)) (t .ps)) at,
+          t .is,
+        )
 
-      module _ (g : r ≡ true) where
-        each : (k : ℕ) → k < p .n + 1 → Payload s (getD (set l (p .n) at) k 0)
-        each k q = go (ℕ-discrete k (p .n))
-          where
-            go : Dec (k ≡ p .n) → Payload s (getD (set l (p .n) at) k 0)
-            go (yes d) = rw (d, getD-set-same l (p .n) at 0 collect-in) collect-good
-            go (no d) = rw (getD-set-other l (p .n) k at 0 d) (t .held k (omega arith))
+    pub collect-takes : Takes s low at l p
+    collect-takes = record { low-bound = t .low-bound; top-bound = collect-top; good = collect-good; len = t .len; room = t .room; held = t .held }
 
-        pub collect-trims : Trims s (set l (p .n) at) (p .n + 1)
-        collect-trims = record { long = length-set l (p .n) at ∙ t .len; few = omega (arith, t .room); held = each }
+    pub collect-taken : (m : List ℕ) (q : Part) → Taken s low at l p m q → (size : ℕ) → size ≡ sizeAt s at → Collecting s stop low marks m q (at + size)
+    collect-taken m q (keep.passed f b c) size e = rw (b, c) (record {
+      xs = t .xs;
+      messages = t .messages;
+      ps = t .ps ++ (at ∷ []);
+      rest = past (t .ahead) h .rest;
+      behind = rw e walked;
+      ahead = rw e (past (t .ahead) h .ahead);
+      low-bound = t .low-bound;
+      marked = t .marked;
+      len = t .len;
+      room = t .room;
+      held = t .held;
+      is = t .is ∙ ap (sorted s) (sym (only-past (isWanted s low (p .top)) (t .ps) at f));
+      top = t .top;
+    })
+    collect-taken m q (keep.taken f (kept a b c)) size e = rw (b, c) (record {
+      xs = t .xs;
+      messages = t .messages;
+      ps = t .ps ++ (at ∷ []);
+      rest = past (t .ahead) h .rest;
+      behind = rw e walked;
+      ahead = rw e (past (t .ahead) h .ahead);
+      low-bound = t .low-bound;
+      marked = t .marked;
+      len = take-trims s low at l p collect-takes .long;
+      room = a;
+      held = take-trims s low at l p collect-takes .held;
+      is = pushed f;
+      top = t .top;
+    })
+    collect-taken m q (keep.taken f (cut a b c)) size e = rw c (record {
+      xs = t .xs;
+      messages = t .messages;
+      ps = t .ps ++ (at ∷ []);
+      rest = past (t .ahead) h .rest;
+      behind = rw e walked;
+      ahead = rw e (past (t .ahead) h .ahead);
+      low-bound = t .low-bound;
+      marked = t .marked;
+      len = m-long;
+      room = omega arith;
+      held = λ k z. b .held .each k (omega (arith, m-long));
+      is = ap (λ (y : List ℕ). sorted s (take 4_500 y)) m-is ∙ lower-again s low (p .top) (t .ps ++ (at ∷ [])) (messages-grow walked) (messages-from walked) 4_499 fall-in
+          ∙ ap (λ (y : List ℕ). sorted s (only (isWanted s low (getD y 4_499 0)) (t .ps ++ (at ∷ [])))) (sym m-is);
+      top = top-is;
+    })
+      where
+        long : length (set l (p .n) at) ≡ 6_000
+        long = length-set l (p .n) at ∙ t .len
 
-        pushed : sorted s (take (p .n + 1) (set l (p .n) at)) ≡ sorted s (only (isWanted s low (p .top)) (t .ps ++ (at ∷ [])))
-        pushed =
-            rw (
-              add-one (p .n),
-              take-suc-set l (p .n) at collect-in,
-              only-more (isWanted s low (p .top)) (t .ps) at (sym f ∙ g),
-              sorted-more s (take (p .n) l) at,
-              sorted-more s (only (isWanted s low (p .top)) (t .ps)) at,
-              t .is,
-            )
+        full : take (p .n + 1) (set l (p .n) at) ≡ set l (p .n) at
+        full = take-all (p .n + 1) (set l (p .n) at) (omega (arith, long))
 
-        pub collect-push : (m : List ℕ) (q : Part) → Trimmed s (set l (p .n) at) (p .n + 1) (p .top) m q → Collecting s stop low m q (at + size)
-        collect-push m q (kept a b c) = rw (b, c) (record {
-          xs = t .xs;
-          messages = t .messages;
-          ps = t .ps ++ (at ∷ []);
-          rest = past (t .ahead) h .rest;
-          behind = rw e walked;
-          ahead = rw e (past (t .ahead) h .ahead);
-          low-bound = t .low-bound;
-          len = collect-trims .long;
-          room = a;
-          held = each;
-          is = pushed;
-          top = t .top;
-        })
-        collect-push m q (cut a b c) = rw c (record {
-          xs = t .xs;
-          messages = t .messages;
-          ps = t .ps ++ (at ∷ []);
-          rest = past (t .ahead) h .rest;
-          behind = rw e walked;
-          ahead = rw e (past (t .ahead) h .ahead);
-          low-bound = t .low-bound;
-          len = m-long;
-          room = omega arith;
-          held = λ k z. b .held .each k (omega (arith, m-long));
-          is = ap (λ (y : List ℕ). sorted s (take 4_500 y)) m-is ∙ lower-again s low (p .top) (t .ps ++ (at ∷ [])) (messages-grow walked) (messages-from walked) 4_499 fall-in
-              ∙ ap (λ (y : List ℕ). sorted s (only (isWanted s low (getD y 4_499 0)) (t .ps ++ (at ∷ [])))) (sym m-is);
-          top = top-is;
-        })
-          where
-            full : take (p .n + 1) (set l (p .n) at) ≡ set l (p .n) at
-            full = take-all (p .n + 1) (set l (p .n) at) (omega (arith, collect-trims .long))
+        m-is : m ≡ sorted s (only (isWanted s low (p .top)) (t .ps ++ (at ∷ [])))
+        m-is = b .is ∙ ap (sorted s) (sym full) ∙ pushed f
 
-            m-is : m ≡ sorted s (only (isWanted s low (p .top)) (t .ps ++ (at ∷ [])))
-            m-is = b .is ∙ ap (sorted s) (sym full) ∙ pushed
+        m-long : length m ≡ 6_000
+        m-long = ap length (b .is) ∙ length-sorted s (set l (p .n) at) ∙ long
 
-            m-long : length m ≡ 6_000
-            m-long = ap length (b .is) ∙ length-sorted s (set l (p .n) at) ∙ collect-trims .long
+        fall-in : 4_499 < length (sorted s (only (isWanted s low (p .top)) (t .ps ++ (at ∷ []))))
+        fall-in = omega (arith, ap length m-is, m-long)
 
-            fall-in : 4_499 < length (sorted s (only (isWanted s low (p .top)) (t .ps ++ (at ∷ []))))
-            fall-in = omega (arith, ap length m-is, m-long)
+        whole : (t .ps ++ (at ∷ [])) ++ past (t .ahead) h .rest ≡ t .xs
+        whole = messages-same (messages-append walked (past (t .ahead) h .ahead)) (t .messages)
 
-            whole : (t .ps ++ (at ∷ [])) ++ past (t .ahead) h .rest ≡ t .xs
-            whole = messages-same (messages-append walked (past (t .ahead) h .ahead)) (t .messages)
+        widen : {x : ℕ} → TopIs s (t .ps ++ (at ∷ [])) low x → TopIs s (t .xs) low x
+        widen (all z) = all z
+        widen (keep.one i z) = keep.one (rw whole at (in-append (past (t .ahead) h .rest) i)) z
 
-            widen : {x : ℕ} → TopIs s (t .ps ++ (at ∷ [])) low x → TopIs s (t .xs) low x
-            widen (all z) = all z
-            widen (keep.one i z) = keep.one (rw whole at (in-append (past (t .ahead) h .rest) i)) z
-
-            top-is : TopIs s (t .xs) low (getD m 4_499 0)
-            top-is = rw m-is (widen (fall-top s low (p .top) (t .ps ++ (at ∷ [])) (messages-grow walked) (messages-from walked) 4_499 fall-in))
+        top-is : TopIs s (t .xs) low (getD m 4_499 0)
+        top-is = rw m-is (widen (fall-top s low (p .top) (t .ps ++ (at ∷ [])) (messages-grow walked) (messages-from walked) 4_499 fall-in))
 
   pub collect-end : stop ≤ at → Collected s stop low l p
   collect-end h = record {
@@ -261,7 +400,7 @@ module _ (s : Bytes) (stop low : ℕ) (l : List ℕ) (p : Part) (at : ℕ) (t : 
       all-walked : t .ps ≡ t .xs
       all-walked = messages-same (rw at-stop at (t .behind)) (t .messages)
 
-pub ruleset collecting = (collect-start, collect-low, collect-top, collect-in, collect-room, collect-good, collect-add, collect-skip, collect-trims, collect-push, collect-end)
+pub ruleset collecting = (collect-start, collect-marked, collect-eight, collect-pass, collect-low, collect-top, collect-in, collect-room, collect-good, collect-add, collect-takes, collect-taken, collect-end)
 
 -- ---- next
 

@@ -54,6 +54,16 @@ module _ {s : Bytes} where
   messages-same (more {at} p m) done = absurd (omega (arith, messages-ahead m, size-some s at p))
   messages-same (more {at} p m) (more q n) = ap (λ (l : List ℕ). at ∷ l) (messages-same m n)
 
+-- messages that stop earlier leave the others ahead
+pub record Split (s : Bytes) (at stop : ℕ) : Type 0 where
+  pub rest : List ℕ
+  pub ahead : Messages s at rest stop
+
+pub messages-split : {s : Bytes} {at over stop : ℕ} {cs xs : List ℕ} → Messages s at cs over → Messages s at xs stop → over ≤ stop → Split s over stop
+messages-split {xs = xs} done n h = record { rest = xs; ahead = n }
+messages-split {s = s} (more {at} p m) done h = absurd (omega (arith, messages-ahead m, size-some s at p))
+messages-split (more p m) (more q n) h = messages-split m n h
+
 pub in-all : {P : ℕ → Type 0} {x : ℕ} {l : List ℕ} → In x l → All P l → P x
 in-all here (cons p a) = p
 in-all (there i) (cons p a) = in-all i a
@@ -61,6 +71,10 @@ in-all (there i) (cons p a) = in-all i a
 pub in-append : {x : ℕ} {l : List ℕ} (m : List ℕ) → In x l → In x (l ++ m)
 in-append m here = here
 in-append m (there i) = there (in-append m i)
+
+pub in-behind : {x : ℕ} (l : List ℕ) {m : List ℕ} → In x m → In x (l ++ m)
+in-behind [] i = i
+in-behind (y ∷ l) i = there (in-behind l i)
 
 -- ---- tests
 
@@ -85,11 +99,11 @@ module _ (s : Bytes) where
   unfolding isWanted
   wanted-is low top x e f = rw (e, f)
 
-  wanted-not : (low top x : ℕ) → isAbove s low x ≡ false → isWanted s low top x ≡ false
+  pub wanted-not : (low top x : ℕ) → isAbove s low x ≡ false → isWanted s low top x ≡ false
   unfolding isWanted
   wanted-not low top x e = rw e
 
-  wanted-past : (low top x : ℕ) → isUpTo s top x ≡ false → isWanted s low top x ≡ false
+  pub wanted-past : (low top x : ℕ) → isUpTo s top x ≡ false → isWanted s low top x ≡ false
   unfolding isWanted
   wanted-past low top x e = rw e (go (isAbove s low x))
     where
@@ -150,6 +164,11 @@ only-more p (y ∷ l) x e = go (p y) (only-more p l x e)
 pub only-past : (p : ℕ → Bool) (l : List ℕ) (x : ℕ) → p x ≡ false → only p (l ++ (x ∷ [])) ≡ only p l
 only-past p [] x e = rw e
 only-past p (y ∷ l) x e = ap (λ (r : List ℕ). cond (p y) (y ∷ r) r) (only-past p l x e)
+
+pub only-clear : (p : ℕ → Bool) (l cs : List ℕ) → ((x : ℕ) → In x cs → p x ≡ false) → only p (l ++ cs) ≡ only p l
+only-clear p [] [] f = refl
+only-clear p [] (x ∷ cs) f = rw (f x here) (only-clear p [] cs (λ y i. f y (there i)))
+only-clear p (y ∷ l) cs f = ap (λ (r : List ℕ). cond (p y) (y ∷ r) r) (only-clear p l cs f)
 
 -- each of them passes
 pub only-passed : (p : ℕ → Bool) (l : List ℕ) → All (λ (x : ℕ). p x ≡ true) (only p l)

@@ -6,12 +6,12 @@ use mathlib.Core.Bool.{Bool, true, false}
 use native.Mathlib.Omega.{arith}
 use native.Mathlib.Decide.{ℕ-discrete, decLe}
 use lib.ListN.{length, getD, take, drop, set, length-set, length-append, length-drop}
-use lib.Seq.{set-getD, set-set, getD-set-same, getD-set-other, length-take-le, take-at}
+use lib.Seq.{set-getD, set-set, getD-set-same, getD-set-other, length-take-le, take-at, drop-at}
 use Rattle.payload.specs.Content.{Bytes}
 use Rattle.heard.specs.Place.{Payload, precedes}
 use Rattle.batch.specs.Next.{sorted}
-use Rattle.batch.specs.Keep.{Held, Climbs, Settles, Settled, Combs, Combed, SortedIs, FirstSorted}
-use Rattle.batch.proofs.Precede.{precede-turn, not-above-trans}
+use Rattle.batch.specs.Keep.{Held, Climbs, Settles, Settled, Combs, Combed, Ascends, SortedIs, FirstSorted}
+use Rattle.batch.proofs.Precede.{true≢false, precede-turn, not-above-trans}
 use Rattle.batch.proofs.Sorting.{sorted-swap, climbing-by, sorted-fixed, length-sorted}
 
 pub held-set : (s : Bytes) (l : List ℕ) (j v : ℕ) → Held s l → Payload s v → Held s (set l j v)
@@ -167,7 +167,47 @@ module _ (s : Bytes) (l₀ : List ℕ) (gap : ℕ) (l : List ℕ) (i : ℕ) (t :
 
 pub ruleset combing = (comb-start, comb-settles, comb-again, comb-end)
 
+-- ---- ascends
+
+pub record Ascending (s : Bytes) (l : List ℕ) (i : ℕ) : Type 0 where
+  pub held : Held s l
+  pub some : 1 ≤ i
+  pub order : Climbs s l i
+
+pub ascend-start : (s : Bytes) (l : List ℕ) → Held s l → Ascending s l 1
+ascend-start s l h = record { held = h; some = omega arith; order = record { up = λ a b p q. absurd (omega arith) } }
+
+module _ (s : Bytes) (l : List ℕ) (i : ℕ) (t : Ascending s l i) where
+  pub ascend-some : 1 ≤ i
+  ascend-some = t .some
+
+  pub ascend-here : i < length l → Payload s (getD l i 0)
+  ascend-here h = t .held .each i h
+
+  pub ascend-last : i < length l → Payload s (getD l (i - 1) 0)
+  ascend-last h = t .held .each (i - 1) (omega arith)
+
+  pub ascend-no : Ascends s l false
+  ascend-no = record { climbs = λ e. true≢false e refl }
+
+  pub ascend-again : (r : Bool) → r ≡ precedes s (getD l i 0) (getD l (i - 1) 0) → r ≡ false → Ascending s l (i + 1)
+  ascend-again r e f = record { held = t .held; some = omega arith; order = record { up = λ a b p q. go a b p q (ℕ-discrete b i) (ℕ-discrete a (i - 1)) } }
+    where
+      go : (a b : ℕ) → a < b → b < i + 1 → Dec (b ≡ i) → Dec (a ≡ i - 1) → precedes s (getD l b 0) (getD l a 0) ≡ false
+      go a b p q (yes x) (yes y) = rw (x, y) (sym e ∙ f)
+      go a b p q (yes x) (no y) =
+          rw x (not-above-trans s (getD l a 0) (getD l (i - 1) 0) (getD l i 0) (t .order .up a (i - 1) (omega arith) (omega (arith, t .some))) (sym e ∙ f))
+      go a b p q (no x) y = t .order .up a b p (omega arith)
+
+  pub ascend-end : length l ≤ i → Ascends s l true
+  ascend-end h = record { climbs = λ e. record { up = λ a b p q. t .order .up a b p (omega arith) } }
+
+pub ruleset ascending = (ascend-start, ascend-some, ascend-here, ascend-last, ascend-no, ascend-again, ascend-end)
+
 -- ---- sort
+
+pub sort-none : (s : Bytes) (l : List ℕ) (r : Bool) → Held s l → Ascends s l r → r ≡ true → SortedIs s l l
+sort-none s l r h a e = record { held = h; is = sym (sorted-fixed s (climbing-by s l (a .climbs e .up))) }
 
 pub record Narrowing (s : Bytes) (l₀ l : List ℕ) (gap : ℕ) : Type 0 where
   pub held : Held s l
@@ -191,7 +231,7 @@ module _ (s : Bytes) (l₀ l : List ℕ) (gap : ℕ) (t : Narrowing s l₀ l gap
   pub sort-end : (m : List ℕ) → Combed s l m 1 → SortedIs s l₀ m
   sort-end m d = record { held = d .held; is = sym (sorted-fixed s (climbing-by s m (d .order refl .up))) ∙ d .same ∙ t .same }
 
-pub ruleset narrowing = (sort-start, sort-combs, sort-small, sort-again, sort-end)
+pub ruleset narrowing = (sort-none, sort-start, sort-combs, sort-small, sort-again, sort-end)
 
 -- ---- sort_first
 
@@ -205,6 +245,6 @@ module _ (s : Bytes) (l : List ℕ) (n : ℕ) (h : n ≤ length l) where
   pub first-done : (m : List ℕ) → SortedIs s (take n l) m → FirstSorted s l n (m ++ drop n l)
   first-done m i =
       let a : length m ≡ n = first-long m i ∙ length-take-le n l h in
-      record { long = length-append m (drop n l) ∙ simp length-drop (omega arith); is = take-at m (drop n l) n a ∙ i .is }
+      record { long = length-append m (drop n l) ∙ simp length-drop (omega arith); is = take-at m (drop n l) n a ∙ i .is; rest = drop-at m (drop n l) n a }
 
 pub ruleset firsts = (first-count, first-long, first-done)

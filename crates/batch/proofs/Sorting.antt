@@ -57,6 +57,33 @@ pub all-in : (l : List ℕ) → All (λ (y : ℕ). In y l) l
 all-in [] = nil
 all-in (x ∷ l) = cons here (all-weak (λ y i. there i) (all-in l))
 
+in-put : (s : Bytes) (x : ℕ) (l : List ℕ) → In x (insert s x l)
+unfolding insert
+in-put s x [] = here
+in-put s x (y ∷ l) = go (precedes s x y) (in-put s x l)
+  where
+    go : (c : Bool) → In x (insert s x l) → In x (cond c (x ∷ y ∷ l) (y ∷ insert s x l))
+    go true r = here
+    go false r = there r
+
+in-keep : (s : Bytes) (x : ℕ) {y : ℕ} {l : List ℕ} → In y l → In y (insert s x l)
+unfolding insert
+in-keep s x {y} (here {xs = xs}) = go (precedes s x y)
+  where
+    go : (c : Bool) → In y (cond c (x ∷ y ∷ xs) (y ∷ insert s x xs))
+    go true = there here
+    go false = here
+in-keep s x {y} (there {y = z} {xs = xs} i) = go (precedes s x z) (in-keep s x i)
+  where
+    go : (c : Bool) → In y (insert s x xs) → In y (cond c (x ∷ z ∷ xs) (z ∷ insert s x xs))
+    go true r = there (there i)
+    go false r = there r
+
+pub in-sorted : (s : Bytes) {y : ℕ} {l : List ℕ} → In y l → In y (sorted s l)
+unfolding sorted
+in-sorted s {y} (here {xs = xs}) = in-put s y (sorted s xs)
+in-sorted s (there {y = z} i) = in-keep s z (in-sorted s i)
+
 -- ---- putting in
 
 module _ (s : Bytes) where
@@ -148,6 +175,12 @@ module _ (s : Bytes) where
   climbing-by [] f = flat
   climbing-by (x ∷ l) f =
       up (all-by l (λ k h. f 0 (suc k) (omega arith) (omega arith))) (climbing-by l (λ a b h k. f (suc a) (suc b) (omega arith) (omega arith)))
+
+  pub climbing-at : {l : List ℕ} → Climbing l → (a b : ℕ) → a < b → b < length l → precedes s (getD l b 0) (getD l a 0) ≡ false
+  climbing-at flat a b h k = absurd (omega arith)
+  climbing-at (up c d) a zero h k = absurd (omega arith)
+  climbing-at (up c d) zero (suc b) h k = all-at c b (omega arith)
+  climbing-at (up c d) (suc a) (suc b) h k = climbing-at d a b (omega arith) (omega arith)
 
   climbing-insert : (x : ℕ) {l : List ℕ} → Climbing l → Climbing (insert s x l)
   unfolding insert

@@ -4,7 +4,7 @@ use mathlib.Core.Path.{_≡_}
 use mathlib.Core.List.{List, [], _∷_, _++_}
 use mathlib.Core.Bool.{Bool, true, false, not, cond, _&&_}
 use lib.Dec.{eqb}
-use lib.ListN.{length, getD, take}
+use lib.ListN.{length, getD, take, drop, set}
 use Rattle.payload.specs.Content.{Bytes}
 use Rattle.heard.specs.Place.{Messages, Payload, precedes}
 use Rattle.batch.specs.declared.collect.Part.{Part}
@@ -64,6 +64,9 @@ pub record Combed (s : Bytes) (l₀ l : List ℕ) (gap : ℕ) : Type 0 where
   pub same : sorted s l ≡ sorted s l₀
   pub order : gap ≡ 1 → Climbs s l (length l)
 
+pub record Ascends (s : Bytes) (l : List ℕ) (r : Bool) : Type 0 where
+  pub climbs : r ≡ true → Climbs s l (length l)
+
 pub record SortedIs (s : Bytes) (l₀ l : List ℕ) : Type 0 where
   pub held : Held s l
   pub is : l ≡ sorted s l₀
@@ -71,6 +74,7 @@ pub record SortedIs (s : Bytes) (l₀ l : List ℕ) : Type 0 where
 pub record FirstSorted (s : Bytes) (l₀ : List ℕ) (n : ℕ) (l : List ℕ) : Type 0 where
   pub long : length l ≡ length l₀
   pub is : take n l ≡ sorted s (take n l₀)
+  pub rest : drop n l ≡ drop n l₀
 
 -- ---- collecting
 
@@ -89,6 +93,20 @@ pub record Trims (s : Bytes) (l : List ℕ) (n : ℕ) : Type 0 where
 pub data Trimmed (s : Bytes) (l₀ : List ℕ) (n top : ℕ) (l : List ℕ) (p : Part) : Type 0 where
   kept : n < 6_000 → l ≡ l₀ → p ≡ record { n = n; top = top } → Trimmed s l₀ n top l p
   cut : n ≡ 6_000 → SortedIs s l₀ l → p ≡ record { n = 4_500; top = getD l 4_499 0 } → Trimmed s l₀ n top l p
+
+-- what is asked for a message to be taken in
+pub record Takes (s : Bytes) (low at : ℕ) (l : List ℕ) (p : Part) : Type 0 where
+  pub low-bound : Bound s low
+  pub top-bound : Bound s (p .top)
+  pub good : Payload s at
+  pub len : length l ≡ 6_000
+  pub room : p .n < 6_000
+  pub held : (k : ℕ) → k < p .n → Payload s (getD l k 0)
+
+-- it is passed over, or it stands behind those held
+pub data Taken (s : Bytes) (low at : ℕ) (l₀ : List ℕ) (p₀ : Part) (l : List ℕ) (p : Part) : Type 0 where
+  passed : isWanted s low (p₀ .top) at ≡ false → l ≡ l₀ → p ≡ p₀ → Taken s low at l₀ p₀ l p
+  taken : isWanted s low (p₀ .top) at ≡ true → Trimmed s (set l₀ (p₀ .n) at) (p₀ .n + 1) (p₀ .top) l p → Taken s low at l₀ p₀ l p
 
 -- 0, or one of these messages, behind `low`
 pub data TopIs (s : Bytes) (xs : List ℕ) (low top : ℕ) : Type 0 where

@@ -1,2 +1,3 @@
 pub mod Next
 pub mod Keep
+pub mod Map

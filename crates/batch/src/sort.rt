@@ -3,7 +3,7 @@ use heard::compare::is_before;
 ghost use mathlib.Core.Path.{_≡_};
 ghost use Prim.Native.Nat.{_+_, _≤_, _<_};
 ghost use lib.ListN.{length, take, drop};
-ghost use Rattle.batch.specs.Keep.{Held, Settles, Settled, Combs, Combed, SortedIs, FirstSorted};
+ghost use Rattle.batch.specs.Keep.{Held, Settles, Settled, Combs, Combed, Ascends, SortedIs, FirstSorted};
 
 // The offset at i goes down in steps of `gap` as far as it is before the one there.
 fn settle(s: &[u8], buf: &mut [usize], i: usize, gap: usize)
@@ -37,11 +37,29 @@ fn comb(s: &[u8], buf: &mut [usize], gap: usize)
     }
 }
 
+// Whether they are in order already.
+fn ascends(s: &[u8], buf: &[usize]) -> bool
+    requires { ⌜ Held (now s) (now buf) ⌝ }
+    ensures { λ r. ⌜ Ascends (now (s .entry)) (now (buf .entry)) r ⌝ }
+{
+    let mut i = 1;
+    while i < buf.len() {
+        if is_before(s, buf[i], buf[i - 1]) {
+            return false;
+        }
+        i += 1;
+    }
+    true
+}
+
 // Offsets in message order. What the wider gaps did matters for speed alone.
 pub(crate) fn sort(s: &[u8], buf: &mut [usize])
     requires { ⌜ Held (now s) (now buf) ⌝ }
     ensures { λ r. ⌜ SortedIs (now (s .entry)) (now (buf .entry)) (now (buf .exit)) ⌝ }
 {
+    if ascends(s, buf) {
+        return;
+    }
     let mut gap = buf.len();
     while 2 < gap {
         gap = gap * 2 / 9 * 2 + 1;

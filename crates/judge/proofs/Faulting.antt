@@ -19,8 +19,9 @@ use Rattle.judge.specs.declared.check.Check.{Check}
 use Rattle.judge.specs.Walk.{leastFault}
 use Rattle.batch.specs.Keep.{Told, Bound}
 use Rattle.batch.specs.Keep as keep
+use Rattle.batch.specs.Map.{Marked, Hinted}
 pub use Rattle.judge.specs.State.{offsets}
-use Rattle.judge.specs.State.{ordered, Given, Last, no, one, Chain, lastOf, Beyond, Checked, Checks, Batched}
+use Rattle.judge.specs.State.{ordered, Given, Charted, Last, no, one, Chain, lastOf, Beyond, Checked, Checks, Batched}
 use Rattle.judge.proofs.Leaving.{chain-left, left-on, left-all, chain-take}
 
 -- what is left behind a message
@@ -76,49 +77,55 @@ module _ (a s : Bytes) (stop : ℕ) (g : Given a s stop) (last : ℕ) where
 
 -- ---- least_fault
 
-pub record Faulting (a s : Bytes) (stop : ℕ) (buf : List ℕ) (c : Check) : Type 0 where
-  pub given : Given a s stop
+pub record Faulting (a s : Bytes) (stop : ℕ) (marks hints buf : List ℕ) (c : Check) : Type 0 where
+  pub charted : Charted a s stop marks hints buf
   pub checked : Checked a s c
   pub same : leastFault (items a) s 0 stop (ordered s stop) ≡ leastFault (items a) s (c .last) (c .least) (leftAt s stop (c .last))
-  pub len : length buf ≡ 6_000
 
-pub faulting-start : (a s : Bytes) (stop : ℕ) (buf : List ℕ) → Given a s stop → length buf ≡ 6000 → Faulting a s stop buf (record { last = 0; field = 0; least = stop })
-faulting-start a s stop buf g l = record {
-  given = g;
-  checked = record { ready = g .ready; last = no; held = λ k b. refl };
+pub faulting-start : (a s : Bytes) (stop : ℕ) (marks hints buf : List ℕ) → Charted a s stop marks hints buf → Faulting a s stop marks hints buf (record { last = 0; field = 0; least = stop })
+faulting-start a s stop marks hints buf g = record {
+  charted = g;
+  checked = record { ready = g .given .ready; last = no; held = λ k b. refl };
   same = ap (leastFault (items a) s 0 stop) (sym (left-all s (offsets s stop)));
-  len = l;
 }
 
-module _ (a s : Bytes) (stop : ℕ) (b₀ : List ℕ) (c : Check) (h : Faulting a s stop b₀ c) where
+module _ (a s : Bytes) (stop : ℕ) (marks hints b₀ : List ℕ) (c : Check) (h : Faulting a s stop marks hints b₀ c) where
+  abbrev given : Given a s stop
+  given = h .charted .given
+
+  pub faulting-marked : Marked s stop marks
+  faulting-marked = h .charted .marked
+
+  pub faulting-hinted : Hinted s stop hints
+  faulting-hinted = h .charted .hinted
+
   pub faulting-told : Told s stop (c .last)
-  faulting-told = given-told a s stop (h .given) (c .last) (h .checked .last)
+  faulting-told = given-told a s stop given (c .last) (h .checked .last)
 
   pub faulting-checked : Checked a s c
   faulting-checked = h .checked
 
   pub faulting-len : length b₀ ≡ 6000
-  faulting-len = h .len
+  faulting-len = h .charted .len
 
   module _ (buf : List ℕ) (r : Batch) (n : NextIs s stop (c .last) buf r) where
     pub faulting-batched : length buf ≡ 6000 → Batched s (c .last) buf (r .n)
-    faulting-batched e = next-batched a s stop (h .given) (c .last) buf r n e
+    faulting-batched e = next-batched a s stop given (c .last) buf r n e
 
     module _ (d : Check) (k : Checks a s c (take (r .n) buf) d) where
       pub faulting-end : r .over ≡ true → d .least ≡ leastFault (items a) s 0 stop (ordered s stop)
       unfolding leastFault
-      faulting-end o = sym (h .same ∙ ap (leastFault (items a) s (c .last) (c .least)) (next-all a s stop (h .given) (c .last) buf r n o) ∙ k .same [])
+      faulting-end o = sym (h .same ∙ ap (leastFault (items a) s (c .last) (c .least)) (next-all a s stop given (c .last) buf r n o) ∙ k .same [])
 
-      pub faulting-again : length buf ≡ 6000 → r .over ≡ false → Faulting a s stop buf d
+      pub faulting-again : length buf ≡ 6000 → r .over ≡ false → Faulting a s stop marks hints buf d
       faulting-again e o = record {
-        given = h .given;
+        charted = record { given = given; marked = faulting-marked; hinted = faulting-hinted; len = e };
         checked = k .checked;
-        same = h .same ∙ ap (leastFault (items a) s (c .last) (c .least)) (next-on a s stop (h .given) (c .last) buf r n o)
+        same = h .same ∙ ap (leastFault (items a) s (c .last) (c .least)) (next-on a s stop given (c .last) buf r n o)
             ∙ k .same (leftAt s stop (lastOf (c .last) (take (r .n) buf))) ∙ ap (λ (l : ℕ). leastFault (items a) s (d .last) (d .least) (leftAt s stop l)) (sym (k .last));
-        len = e;
       }
 
       pub faulting-less : r .over ≡ false → length (leftAt s stop (d .last)) < length (leftAt s stop (c .last))
-      faulting-less o = rw (k .last) (next-less a s stop (h .given) (c .last) buf r n o)
+      faulting-less o = rw (k .last) (next-less a s stop given (c .last) buf r n o)
 
-pub ruleset faulting = (faulting-start, faulting-told, faulting-checked, faulting-len, faulting-batched, faulting-end, faulting-again, faulting-less)
+pub ruleset faulting = (faulting-start, faulting-told, faulting-marked, faulting-hinted, faulting-checked, faulting-len, faulting-batched, faulting-end, faulting-again, faulting-less)

@@ -1,14 +1,14 @@
 -- Laws of the entry.
-use Prim.Native.Nat.{ℕ, _+_, _-_, _<_, _≤_}
+use Prim.Native.Nat.{ℕ, _+_, _-_, _*_, _^_, _<_, _≤_}
 use mathlib.Core.Path.{_≡_, refl, sym, ap, ap₂, subst, _∙_}
 use mathlib.Core.List.{List, [], _∷_, _++_, map}
 use mathlib.Core.Bool.{Bool, true, false, cond}
 use native.Mathlib.Omega.{arith}
 use borrow.Author.Tests.{leb-true, leb-false, le-leb, lt-leb}
-use mir.Syntax.{w8}
+use mir.Syntax.{w8, w64}
 use mir.Val.{Fits}
 use lib.Dec.{leb}
-use lib.ListN.{length, getD, take, drop}
+use lib.ListN.{length, getD, take, drop, replicate, length-replicate, getD-replicate}
 use lib.Seq.{sets, sets-eq}
 use Rattle.order.specs.Comparison.{bytes}
 use Rattle.change.specs.Difference as change
@@ -40,8 +40,10 @@ use Rattle.message.specs.declared.version.Version.{Version}
 use Rattle.message.specs.Hear as message
 use Rattle.message.specs.Take.{Taken, all, misfit, asItem}
 use Rattle.message.specs.Take as fold
-use Rattle.heard.specs.Place.{keyAt, announcesAt, toldAt, Payload, Messages}
+use Rattle.heard.specs.Place.{keyAt, announcesAt, toldAt, Payload, Messages, done, more}
 use Rattle.batch.specs.Next.{sorted}
+use Rattle.batch.specs.Map.{Surveys, Mapped}
+use Rattle.batch.specs.Map as map
 use Rattle.heard.specs.declared.hear.Stop.{Stop}
 use Rattle.heard.specs.declared.hear.Stop.the-variants as stop
 use Rattle.heard.specs.declared.hear.Heard.{Heard}
@@ -53,8 +55,9 @@ use Rattle.judge.specs.Walk.{leastFault, settled}
 use Rattle.judge.specs.Answer.{takenOf, misfitAs, takenAdmitted, stopAdmitted, judgeAdmitted, leaves, resultOf, countsOf, accepted, judgeAnswer, judgeOf, judgeOut}
 use Rattle.heard.specs.Field.{recordField}
 use Rattle.heard.specs.Heard.{stopIs, countFlags, sumFields, HeardIs}
-use Rattle.judge.specs.State.{offsets, ordered, Given, leftAll, RoomFor, lengthOf, Balanced}
+use Rattle.judge.specs.State.{offsets, ordered, Given, Charted, Heeds, leftAll, RoomFor, lengthOf, Balanced}
 use Rattle.judge.proofs.Leaving.{offsets-are}
+use Rattle.judge.proofs.Sorting.{some-size}
 use Rattle.judge.proofs.Finding.{bytes-from}
 use Rattle.judge.proofs.Lengths.{taken-length}
 use Rattle.judge.proofs.Deciding.{FirstMisfit, AllTaken, fault-found, no-fault, announced-told, withdrawn-told}
@@ -113,7 +116,7 @@ over-room m room = go (leb m room) refl
     go true p e = absurd (let z : _≡_ {A = ℕ} 0 1 = cc in omega arith)
     go false p e = leb-false m room p
 
-module _ (a s : Bytes) (stop more less : ℕ) (buf : List ℕ) (b : Balanced a s stop more less buf) (o : Bytes) (r : Length) (e : r ≡ lengthOf (length a + more - less) (length o)) where
+module _ (a s : Bytes) (stop more less : ℕ) (marks hints buf : List ℕ) (b : Balanced a s stop more less marks hints buf) (o : Bytes) (r : Length) (e : r ≡ lengthOf (length a + more - less) (length o)) where
   abbrev whole : Bytes
   whole = leftAll a s stop
 
@@ -139,17 +142,14 @@ module _ (a s : Bytes) (stop more less : ℕ) (buf : List ℕ) (b : Balanced a s
         let z : 0 + length whole ≡ length whole = omega arith in
         rw (le-leb (length whole) (length o) h) (d ∙ sets-eq whole o 0 (omega (arith, h)) ∙ ap (λ (k : ℕ). whole ++ drop k o) z)
 
-module _ (a s : Bytes) (stop more less : ℕ) (buf : List ℕ) (b : Balanced a s stop more less buf) where
-  pub all-given : Given a s stop
-  all-given = b .given
-
-  pub all-len : length buf ≡ 6000
-  all-len = b .len
+module _ (a s : Bytes) (stop more less : ℕ) (marks hints buf : List ℕ) (b : Balanced a s stop more less marks hints buf) where
+  pub all-charted : Charted a s stop marks hints buf
+  all-charted = b .charted
 
   pub all-enough : less ≤ length a + more
   all-enough = omega (arith, b .is)
 
-pub ruleset putting-all = (all-given, all-len, all-enough, all-over, all-left, all-room, all-within, all-out)
+pub ruleset putting-all = (all-charted, all-enough, all-over, all-left, all-room, all-within, all-out)
 
 -- ---- our snapshot
 
@@ -174,9 +174,9 @@ module _ (v : Version) (a m o : Bytes) (x : Admitted) (e : x ≡ admitOneOf Snap
   unfolding judgeOut judgeAdmitted
   judge-left r d = rw (← e, d)
 
-module _ (v : Version) (a m : Bytes) (x : Admitted) (e : x ≡ admitOneOf Snapshot a) (y : x ≡ Yes) (h : Heard) (k : HeardIs v m h) where
+module _ (v : Version) (a m : Bytes) (y : admitOneOf Snapshot a ≡ Yes) (h : Heard) (k : HeardIs v m h) where
   fine : verdict Snapshot a ≡ verdict.Fine
-  fine = admitted-fine a (sym e ∙ y)
+  fine = admitted-fine a y
 
   is-map : IsMap Snapshot (items a)
   is-map = faithful Snapshot .map-of a fine
@@ -196,6 +196,9 @@ module _ (v : Version) (a m : Bytes) (x : Admitted) (e : x ≡ admitOneOf Snapsh
   pub judge-given : Given a m (h .over)
   judge-given = record { ready = ready-start Announced a fine; messages = messages }
 
+  pub judge-charted : (marks hints buf : List ℕ) → Mapped m (h .over) marks hints buf → Charted a m (h .over) marks hints buf
+  judge-charted marks hints buf c = record { given = judge-given; marked = c .marked; hinted = c .hinted; len = c .len }
+
   module _ (l : ℕ) (f : l ≡ leastFault (items a) m 0 (h .over) (ordered m (h .over))) where
     -- a message that does not fit
     module _ (lt : l < h .over) where
@@ -210,7 +213,7 @@ module _ (v : Version) (a m : Bytes) (x : Admitted) (e : x ≡ admitOneOf Snapsh
 
       refused : judgeAdmitted v a m ≡ No (misfitAs (toldAt m l .change) l)
       unfolding judgeAdmitted
-      refused = rw (← e, y, misfits-at)
+      refused = rw (y, misfits-at)
 
       pub judge-misfit : (o : Bytes) (r : Refusal) → r ≡ misfitAs (toldAt m l .change) l → Refused r ≡ judgeOf v a m (length o)
       unfolding judgeOf
@@ -238,7 +241,7 @@ module _ (v : Version) (a m : Bytes) (x : Admitted) (e : x ≡ admitOneOf Snapsh
 
         faulty : judgeAdmitted v a m ≡ No (refusal.Faulty at)
         unfolding judgeAdmitted
-        faulty = rw (← e, y, taken, stops)
+        faulty = rw (y, taken, stops)
 
         pub judge-faulty : (o : Bytes) → Refused (refusal.Faulty at) ≡ judgeOf v a m (length o)
         unfolding judgeOf
@@ -248,15 +251,15 @@ module _ (v : Version) (a m : Bytes) (x : Admitted) (e : x ≡ admitOneOf Snapsh
         unfolding judgeOut
         judge-faulty-left o = rw faulty
 
-      pub judge-balanced : ((i : ℕ) → Fits w8 (getD a i 0)) → (buf : List ℕ) → length buf ≡ 6000 → Balanced a m (h .over) (h .more) (h .less) buf
+      pub judge-balanced : ((i : ℕ) → Fits w8 (getD a i 0)) → (marks hints b₀ : List ℕ) → Mapped m (h .over) marks hints b₀ → (buf : List ℕ) → length buf ≡ 6000 → Balanced a m (h .over) (h .more) (h .less) marks hints buf
       unfolding leftAll sumFields
-      judge-balanced oa buf len =
+      judge-balanced oa marks hints b₀ c buf len =
           let z : encode Snapshot (items a) ≡ a = bytes-from a 0 (judge-given .ready) oa in
           let w = taken-length m (sumFields m true) (sumFields m false) refl (λ n ns. plus n ns (announcesAt m n)) refl (λ n ns. minus n ns (announcesAt m n))
           (items a) (apply bytes (items a) (settled m (ordered m (h .over)))) is-map messages (no-fault (items a) m xs 8 (h .over) l is-map (omega arith) messages f ge .taken) in
           let p : h .more ≡ sumFields m true xs = k .more ∙ ap (sumFields m true) (sym xs-are) in
           let q : h .less ≡ sumFields m false xs = k .less ∙ ap (sumFields m false) (sym xs-are) in
-          record { given = judge-given; is = omega (arith, w, p, q, ap length z); len = len }
+          record { charted = record { given = judge-given; marked = c .marked; hinted = c .hinted; len = len }; is = omega (arith, w, p, q, ap length z) }
         where
           plus : (n : ℕ) (ns : List ℕ) (b : Bool) → cond b (cond true (length (recordField (keyAt m n))) 0) (cond true 0 (length (recordField (keyAt m n)))) + sumFields m true ns ≡ cond b (length (recordField (keyAt m n))) 0 + sumFields m true ns
           plus n ns b = refl
@@ -270,7 +273,7 @@ module _ (v : Version) (a m : Bytes) (x : Admitted) (e : x ≡ admitOneOf Snapsh
 
         yes : judgeAdmitted v a m ≡ Yes
         unfolding judgeAdmitted
-        yes = rw (← e, y, taken, ends)
+        yes = rw (y, taken, ends)
 
         pub judge-out : (o p : Bytes) → p ≡ outAfter Yes (leftAll a m (h .over)) o → p ≡ judgeOut v a m o
         unfolding judgeOut
@@ -305,4 +308,35 @@ module _ (v : Version) (a m : Bytes) (x : Admitted) (e : x ≡ admitOneOf Snapsh
               let n = within-room (length whole-is) (length o) len (sym g ∙ d) in
               rw (yes, result, le-leb (length whole-is) (length o) (n .0), ends) (ap (Accepted session serial times) (counts-path (n .1) announced-is withdrawn-is))
 
-pub ruleset judging = (judge-refused, judge-left, judge-given, judge-payload, judge-misfit, judge-misfit-left, judge-faulty, judge-faulty-left, judge-balanced, judge-out, judge-room, judge-accepted)
+-- what `judge` hands on: an array of zeros marks nothing and hints at nothing
+module _ (v : Version) (a m : Bytes) (h : Heard) (k : HeardIs v m h) where
+  pub judge-surveys : Surveys m (h .over) (replicate 512 0) (replicate 962 0) (replicate 6000 0)
+  judge-surveys = record {
+    stretch = record { xs = k .xs; messages = k .messages };
+    marked = record { long = length-replicate {A = ℕ} 512 0; each = λ c n z. absurd (z (getD-replicate {A = ℕ} 512 (4 * c) 0 0 (omega arith))) };
+    hinted = record { long = length-replicate {A = ℕ} 962 0; each = λ n z. map.none (getD-replicate {A = ℕ} 962 n 0 0 (omega arith)) };
+    len = length-replicate {A = ℕ} 6000 0;
+  }
+
+  pub judge-count : Fits w64 (h .over) → h .announced + h .withdrawn < 2 ^ 64
+  unfolding countFlags
+  judge-count w = omega (arith, k .announced, k .withdrawn, flags m (k .xs), counted m (k .messages), w .fits)
+    where
+      flags : (s : Bytes) (xs : List ℕ) → countFlags s true xs + countFlags s false xs ≡ length xs
+      flags s [] = refl
+      flags s (n ∷ ns) = go (announcesAt s n) (flags s ns)
+        where
+          go : (b : Bool) → countFlags s true ns + countFlags s false ns ≡ length ns → cond b 1 0 + countFlags s true ns + (cond b 0 1 + countFlags s false ns) ≡ length (n ∷ ns)
+          go true i = omega (arith, i)
+          go false i = omega (arith, i)
+
+      counted : (s : Bytes) {at stop : ℕ} {xs : List ℕ} → Messages s at xs stop → length xs + at ≤ stop
+      counted s done = omega arith
+      counted s (more p ms) = omega (arith, counted s ms, some-size s (p .sized))
+
+  pub judge-heeds : (x : Admitted) → x ≡ admitOneOf Snapshot a → x ≡ Yes → (marks hints buf : List ℕ) → Mapped m (h .over) marks hints buf → Heeds v a m h marks hints buf
+  judge-heeds x e y marks hints buf c = record { fine = sym e ∙ y; heard = k; mapped = c }
+
+pub ruleset judging = (judge-refused, judge-left, judge-surveys, judge-count, judge-heeds)
+
+pub ruleset judging-heard = (judge-charted, judge-payload, judge-misfit, judge-misfit-left, judge-faulty, judge-faulty-left, judge-balanced, judge-out, judge-room, judge-accepted)

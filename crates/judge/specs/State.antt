@@ -17,9 +17,15 @@ use Rattle.payload.specs.Content.{Bytes}
 use Rattle.payload.specs.Payload.{encode, items}
 use Rattle.item.specs.declared.reading.Reading.the-variants.{Announced}
 use Rattle.item.specs.Reading.{Ready}
+use Rattle.delta.specs.declared.admit.Admitted.the-variants.{Yes}
+use Rattle.delta.specs.Admission.{admitOneOf}
+use Rattle.message.specs.declared.version.Version.{Version}
+use Rattle.heard.specs.declared.hear.Heard.{Heard}
+use Rattle.heard.specs.Heard.{HeardIs}
 use Rattle.heard.specs.Field.{recordField}
 use Rattle.heard.specs.Place.{sizeAt, keyAt, announcesAt, Payload, Messages}
 use Rattle.batch.specs.Next.{isAbove, sorted, left}
+use Rattle.batch.specs.Map.{Marked, Hinted, Mapped}
 use Rattle.judge.specs.declared.find.Found.{Found}
 use Rattle.judge.specs.declared.check.Check.{Check}
 use Rattle.judge.specs.declared.write.Write.{Write}
@@ -43,6 +49,13 @@ ordered s stop = sorted s (offsets s stop)
 pub record Given (a s : Bytes) (stop : ℕ) : Type 0 where
   pub ready : Ready Announced a 0
   pub messages : Messages s 8 (offsets s stop) stop
+
+-- and what was surveyed of them; a buffer
+pub record Charted (a s : Bytes) (stop : ℕ) (marks hints buf : List ℕ) : Type 0 where
+  pub given : Given a s stop
+  pub marked : Marked s stop marks
+  pub hinted : Hinted s stop hints
+  pub len : length buf ≡ 6_000
 
 -- no message (0), or one
 pub data Last (s : Bytes) : ℕ → Type 0 where
@@ -167,7 +180,12 @@ abbrev pub lengthOf : ℕ → ℕ → Length
 lengthOf n room = cond (leb n room) (Within n) Over
 
 -- the length of what all messages leave, by the bytes that they announce and withdraw; and a buffer
-pub record Balanced (a s : Bytes) (stop more less : ℕ) (buf : List ℕ) : Type 0 where
-  pub given : Given a s stop
+pub record Balanced (a s : Bytes) (stop more less : ℕ) (marks hints buf : List ℕ) : Type 0 where
+  pub charted : Charted a s stop marks hints buf
   pub is : length (leftAll a s stop) + less ≡ length a + more
-  pub len : length buf ≡ 6_000
+
+-- an answer was heard and surveyed, and our snapshot is admitted
+pub record Heeds (v : Version) (a m : Bytes) (h : Heard) (marks hints buf : List ℕ) : Type 0 where
+  pub fine : admitOneOf Snapshot a ≡ Yes
+  pub heard : HeardIs v m h
+  pub mapped : Mapped m (h .over) marks hints buf

@@ -1,10 +1,12 @@
 // An answer of another cache, judged.
 use crate::least::least_fault;
 use crate::put::put;
+use batch::survey::survey;
 use delta::admit::Admitted;
 use delta::admit::admit_one;
 use delta::refusal::Refusal;
 use field::tag::Form;
+use heard::hear::Heard;
 use heard::hear::Stop;
 use heard::hear::hear;
 use heard::place::announces;
@@ -20,7 +22,7 @@ ghost use Rattle.delta.specs.declared.admit.Admitted.the-variants.{Yes};
 ghost use Rattle.delta.specs.Answer.{outAfter};
 ghost use Rattle.heard.specs.Place.{Payload, toldAt};
 ghost use Rattle.judge.specs.Answer.{misfitAs, judgeOf, judgeOut};
-ghost use Rattle.judge.specs.State.{Balanced, leftAll, lengthOf};
+ghost use Rattle.judge.specs.State.{Balanced, Heeds, leftAll, lengthOf};
 
 pub enum Judged {
     // The session, the serial and the times of the End of Data, and what was written.
@@ -74,31 +76,38 @@ fn put_all(
     stop: usize,
     more: usize,
     less: usize,
+    marks: &[usize; 512],
+    hints: &[usize; 962],
     buf: &mut [usize; 6000],
     out: &mut [u8],
 ) -> Length
-    requires { ⌜ Balanced (now snapshot) (now s) stop more less (now buf) ⌝ }
+    requires { ⌜ Balanced (now snapshot) (now s) stop more less (now marks) (now hints) (now buf) ⌝ }
     ensures { λ r. ⌜ (r ≡ lengthOf (length (leftAll (now (snapshot .entry)) (now (s .entry)) stop)) (length (now (out .entry)))) × (now (out .exit) ≡ outAfter Yes (leftAll (now (snapshot .entry)) (now (s .entry)) stop) (now (out .entry))) ⌝ }
 {
     let Length::Within(len) = sized(snapshot.len(), more, less, out.len()) else {
         return Length::Over;
     };
-    put(snapshot, s, stop, buf, out);
+    put(snapshot, s, stop, marks, hints, buf, out);
     Length::Within(len)
 }
 
-// An answer of messages on a snapshot, and the snapshot that it leaves.
-pub fn judge(version: Version, snapshot: &[u8], messages: &[u8], out: &mut [u8]) -> Judged
+// What was heard of an answer, on a good snapshot.
+fn judge_heard(
+    version: Version,
+    snapshot: &[u8],
+    messages: &[u8],
+    heard: Heard,
+    marks: &[usize; 512],
+    hints: &[usize; 962],
+    buf: &mut [usize; 6000],
+    out: &mut [u8],
+) -> Judged
+    requires { ⌜ Heeds version (now snapshot) (now messages) heard (now marks) (now hints) (now buf) ⌝ }
     ensures { λ r. ⌜ (r ≡ judgeOf version (now (snapshot .entry)) (now (messages .entry)) (length (now (out .entry)))) × (now (out .exit) ≡ judgeOut version (now (snapshot .entry)) (now (messages .entry)) (now (out .entry))) ⌝ }
 {
-    if let Admitted::No(r) = admit_one(Form::Snapshot, snapshot) {
-        return Judged::Refused(r);
-    }
-    let heard = hear(version, messages);
     let over = heard.over;
     let stop = heard.stop;
-    let mut buf = [0usize; 6000];
-    let least = least_fault(snapshot, messages, over, &mut buf);
+    let least = least_fault(snapshot, messages, over, marks, hints, buf);
     if least < over {
         return Judged::Refused(misfit(messages, least));
     }
@@ -111,7 +120,9 @@ pub fn judge(version: Version, snapshot: &[u8], messages: &[u8], out: &mut [u8])
                 over,
                 heard.more,
                 heard.less,
-                &mut buf,
+                marks,
+                hints,
+                buf,
                 out,
             ) {
                 Length::Over => Judged::Refused(Refusal::NoRoom),
@@ -128,4 +139,35 @@ pub fn judge(version: Version, snapshot: &[u8], messages: &[u8], out: &mut [u8])
             }
         }
     }
+}
+
+// An answer of messages on a snapshot, and the snapshot that it leaves.
+pub fn judge(version: Version, snapshot: &[u8], messages: &[u8], out: &mut [u8]) -> Judged
+    ensures { λ r. ⌜ (r ≡ judgeOf version (now (snapshot .entry)) (now (messages .entry)) (length (now (out .entry)))) × (now (out .exit) ≡ judgeOut version (now (snapshot .entry)) (now (messages .entry)) (now (out .entry))) ⌝ }
+{
+    if let Admitted::No(r) = admit_one(Form::Snapshot, snapshot) {
+        return Judged::Refused(r);
+    }
+    let heard = hear(version, messages);
+    let mut marks = [0usize; 512];
+    let mut hints = [0usize; 962];
+    let mut buf = [0usize; 6000];
+    survey(
+        messages,
+        heard.over,
+        heard.announced + heard.withdrawn,
+        &mut marks,
+        &mut hints,
+        &mut buf,
+    );
+    judge_heard(
+        version,
+        snapshot,
+        messages,
+        heard,
+        &marks,
+        &hints,
+        &mut buf,
+        out,
+    )
 }

@@ -9,7 +9,7 @@ ghost use mathlib.Core.Path.{_≡_};
 ghost use lib.ListN.{length};
 ghost use lib.Seq.{sets};
 ghost use mathlib.Core.List.{[]};
-ghost use Rattle.judge.specs.State.{Given, RoomFor, leftAll, leftOver, Written, Ending};
+ghost use Rattle.judge.specs.State.{Charted, RoomFor, leftAll, leftOver, Written, Ending};
 
 // Where all is told: the last record, and the rest of the snapshot.
 fn put_rest(snapshot: &[u8], s: &[u8], out: &mut [u8], w: Write)
@@ -29,8 +29,16 @@ fn put_rest(snapshot: &[u8], s: &[u8], out: &mut [u8], w: Write)
 }
 
 // All of the messages.
-pub(crate) fn put(snapshot: &[u8], s: &[u8], stop: usize, buf: &mut [usize; 6000], out: &mut [u8])
-    requires { ⌜ Given (now snapshot) (now s) stop × (RoomFor (now snapshot) (now s) stop (now out) × (length (now buf) ≡ 6000)) ⌝ }
+pub(crate) fn put(
+    snapshot: &[u8],
+    s: &[u8],
+    stop: usize,
+    marks: &[usize; 512],
+    hints: &[usize; 962],
+    buf: &mut [usize; 6000],
+    out: &mut [u8],
+)
+    requires { ⌜ Charted (now snapshot) (now s) stop (now marks) (now hints) (now buf) × RoomFor (now snapshot) (now s) stop (now out) ⌝ }
     ensures { λ r. ⌜ now (out .exit) ≡ sets (now (out .entry)) 0 (leftAll (now (snapshot .entry)) (now (s .entry)) stop) ⌝ }
 {
     let mut w = Write {
@@ -39,7 +47,7 @@ pub(crate) fn put(snapshot: &[u8], s: &[u8], stop: usize, buf: &mut [usize; 6000
         end: 0,
     };
     loop {
-        let batch = next(s, stop, w.last, buf);
+        let batch = next(s, stop, w.last, marks, hints, buf);
         w = write_batch(snapshot, s, buf, batch.n, out, w);
         if batch.over {
             put_rest(snapshot, s, out, w);

@@ -6,34 +6,16 @@ use Rattle.batch.proofs.collect.collect.Statement.{statement}
 use Rattle.batch.proofs.collect.collect.Tie as tie
 
 abbrev Inv-loop : tie.InvT-loop
-Inv-loop s stop low buf₀ p₀ at₀ buf p at = Collecting s stop low buf p at
+Inv-loop s stop low first marks buf₀ p₀ at₀ c₀ buf p at c = Collecting s stop low marks buf p at
 
 abbrev μ-loop : tie.MeasureT-loop
-μ-loop s stop low buf₀ p₀ at₀ buf p at = stop - at
+μ-loop s stop low first marks buf₀ p₀ at₀ c₀ buf p at c = stop - at
 
 loop-holds : tie.Need-loop-holds Inv-loop μ-loop
 loop-holds c = search (collecting, needs)
 
-size-at-requires : tie.Need-size-at-requires Inv-loop μ-loop
-size-at-requires c κs = search (collecting, needs)
-
-is-wanted-requires : tie.Need-is-wanted-requires Inv-loop μ-loop
-is-wanted-requires c κs = search (collecting, needs)
-
-mul-buf : tie.Need-mul-buf Inv-loop μ-loop
-mul-buf c = search (collecting, needs)
-
-element-write-buf : tie.Need-element-write-buf Inv-loop μ-loop
-element-write-buf c = search (collecting, needs)
-
-add-trim : tie.Need-add-trim Inv-loop μ-loop
-add-trim c = search (collecting, needs)
-
-trim-requires : tie.Need-trim-requires Inv-loop μ-loop
-trim-requires c κs = search (collecting, needs)
-
-add-at : tie.Need-add-at Inv-loop μ-loop
-add-at c = search (collecting, needs)
+pass-requires : tie.Need-pass-requires Inv-loop μ-loop
+pass-requires c κs = search (collecting, needs)
 
 loop-less : tie.Need-loop-less Inv-loop μ-loop
 loop-less c = search (collecting, needs)
@@ -41,8 +23,14 @@ loop-less c = search (collecting, needs)
 loop-again : tie.Need-loop-again Inv-loop μ-loop
 loop-again c = search (collecting, needs)
 
-add-at-2 : tie.Need-add-at-2 Inv-loop μ-loop
-add-at-2 c = search (collecting, needs)
+take-in-requires : tie.Need-take-in-requires Inv-loop μ-loop
+take-in-requires c κs = search (collecting, needs)
+
+size-at-requires : tie.Need-size-at-requires Inv-loop μ-loop
+size-at-requires c κs = search (collecting, needs)
+
+add-at : tie.Need-add-at Inv-loop μ-loop
+add-at c = search (collecting, needs)
 
 loop-less-2 : tie.Need-loop-less-2 Inv-loop μ-loop
 loop-less-2 c = search (collecting, needs)
@@ -60,16 +48,12 @@ collect-spec =
     Inv-loop
     μ-loop
     loop-holds
-    size-at-requires
-    is-wanted-requires
-    mul-buf
-    element-write-buf
-    add-trim
-    trim-requires
-    add-at
+    pass-requires
     loop-less
     loop-again
-    add-at-2
+    take-in-requires
+    size-at-requires
+    add-at
     loop-less-2
     loop-again-2
     returns)

@@ -11,6 +11,15 @@ Inv-loop s buf₀ gap₀ buf gap = Narrowing s buf₀ buf gap
 abbrev μ-loop : tie.MeasureT-loop
 μ-loop s buf₀ gap₀ buf gap = gap
 
+ascends-requires : tie.Need-ascends-requires Inv-loop μ-loop
+ascends-requires c κs = search (narrowing, needs)
+
+same-length : tie.Need-same-length Inv-loop μ-loop
+same-length c = search (narrowing, needs)
+
+returns : tie.Need-returns Inv-loop μ-loop
+returns c = search (narrowing, needs)
+
 loop-holds : tie.Need-loop-holds Inv-loop μ-loop
 loop-holds c = search (narrowing, needs)
 
@@ -35,11 +44,11 @@ loop-again c = search (narrowing, needs)
 comb-requires-2 : tie.Need-comb-requires-2 Inv-loop μ-loop
 comb-requires-2 c κs = search (narrowing, needs)
 
-same-length : tie.Need-same-length Inv-loop μ-loop
-same-length c = search (narrowing, needs)
+same-length-2 : tie.Need-same-length-2 Inv-loop μ-loop
+same-length-2 c = search (narrowing, needs)
 
-returns : tie.Need-returns Inv-loop μ-loop
-returns c = search (narrowing, needs)
+returns-2 : tie.Need-returns-2 Inv-loop μ-loop
+returns-2 c = search (narrowing, needs)
 
 pub sort-spec : {M : Type 1} → statement M
 sort-spec =
@@ -47,6 +56,9 @@ sort-spec =
     (tie.spec
     Inv-loop
     μ-loop
+    ascends-requires
+    same-length
+    returns
     loop-holds
     mul-gap
     mul-gap-2
@@ -55,5 +67,5 @@ sort-spec =
     loop-less
     loop-again
     comb-requires-2
-    same-length
-    returns)
+    same-length-2
+    returns-2)

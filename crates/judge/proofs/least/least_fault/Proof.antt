@@ -6,10 +6,10 @@ use Rattle.judge.proofs.least.least_fault.Statement.{statement}
 use Rattle.judge.proofs.least.least_fault.Tie as tie
 
 abbrev Inv-loop : tie.InvT-loop
-Inv-loop snapshot s stop buf₀ c₀ buf c = Faulting snapshot s stop buf c
+Inv-loop snapshot s stop marks hints buf₀ c₀ buf c = Faulting snapshot s stop marks hints buf c
 
 abbrev μ-loop : tie.MeasureT-loop
-μ-loop snapshot s stop buf₀ c₀ buf c = length (leftAt s stop (c .last))
+μ-loop snapshot s stop marks hints buf₀ c₀ buf c = length (leftAt s stop (c .last))
 
 loop-holds : tie.Need-loop-holds Inv-loop μ-loop
 loop-holds c = search (faulting, needs)

@@ -6,10 +6,10 @@ use Rattle.judge.proofs.put.put.Statement.{statement}
 use Rattle.judge.proofs.put.put.Tie as tie
 
 abbrev Inv-loop : tie.InvT-loop
-Inv-loop snapshot s stop buf₀ out₀ w₀ buf out w = Putting snapshot s stop out₀ buf out w
+Inv-loop snapshot s stop marks hints buf₀ out₀ w₀ buf out w = Putting snapshot s stop marks hints out₀ buf out w
 
 abbrev μ-loop : tie.MeasureT-loop
-μ-loop snapshot s stop buf₀ out₀ w₀ buf out w = length (leftAt s stop (w .last))
+μ-loop snapshot s stop marks hints buf₀ out₀ w₀ buf out w = length (leftAt s stop (w .last))
 
 loop-holds : tie.Need-loop-holds Inv-loop μ-loop
 loop-holds c = search (putting, needs)
