@@ -7,7 +7,8 @@ use native.Mathlib.Omega.{arith}
 use native.Mathlib.Nat.{zero-add}
 use mir.Syntax.{w8}
 use mir.Val.{Fits}
-use lib.Dec.{eqb}
+use borrow.Author.Tests.{ltb-true}
+use lib.Dec.{eqb, ltb}
 use lib.ListN.{length, getD, take, drop, replicate, length-append, length-drop, length-take, length-replicate, getD-replicate, List·getD-append, List·getD-eq-default}
 use lib.Seq.{sets, take-at, drop-drop, take-add, sets-eq, length-sets}
 use Rattle.order.specs.declared.Ordering.{Ordering}
@@ -21,9 +22,12 @@ use Rattle.field.specs.declared.tag.Form.the-variants.{Snapshot}
 use Rattle.field.specs.declared.key.Key.{Key}
 use Rattle.field.specs.Cells.{Cell, cells, field}
 use Rattle.field.specs.Cells as run
+use Rattle.field.specs.Number.{wordAt}
+use Rattle.field.specs.Tag.{kindOf}
 use Rattle.field.specs.Places.{part}
 pub use Rattle.field.specs.Places.{keyIn}
 use Rattle.field.specs.Run.{AllBytes, Run, done, more}
+use Rattle.field.proofs.Digits.{snapshot-kind}
 use Rattle.field.proofs.Encode.{field-front, rest-bytes}
 use Rattle.payload.specs.Content.{Bytes, entryOf, cellFor}
 use Rattle.payload.specs.Payload.{entries, encode, items}
@@ -33,15 +37,17 @@ use Rattle.item.specs.declared.place.Entry.{Entry}
 use Rattle.item.specs.declared.reading.Reading.the-variants.{Announced}
 use Rattle.item.specs.declared.reading.Read.{Read}
 use Rattle.item.specs.declared.reading.Read.the-variants.{End, One}
-use Rattle.item.specs.Front.{frontKey}
+use Rattle.item.specs.Front.{frontKey, frontIn}
 use Rattle.item.specs.Reading.{Ready, FieldIs, Reads}
 use Rattle.item.proofs.Fronts.{front-less, drop-bytes, take-bytes, cons-bytes}
+use Rattle.item.proofs.Heres.{here, cell, said, front-is}
+use Rattle.item.proofs.Heres as heres
 use Rattle.walk.specs.Seek.{Seeks}
 use Rattle.walk.proofs.Lengths.{body-bytes}
 use Rattle.heard.specs.Place.{typeAt, sizeAt, keyAt, Payload, Sized, v4, v6, key}
 use Rattle.heard.specs.Field.{recordField}
 use Rattle.judge.specs.declared.find.Found.{Found}
-use Rattle.judge.specs.State.{Finds}
+use Rattle.judge.specs.State.{Finds, IsPast}
 
 abbrev S : Type 0
 S = change.Snapshot Bytes Bytes
@@ -276,7 +282,7 @@ module _ (s : Bytes) (at : ℕ) where
           let z = size-small (p .sized) in
           omega (arith, q, z)
 
--- ---- find
+-- ---- a record by its name
 
 part-split : (a : Bytes) (from at to : ℕ) → from ≤ at → at ≤ to → part a from at ++ part a at to ≡ part a from to
 part-split a from at to h k =
@@ -294,44 +300,128 @@ module _ (k : Bytes) (n₀ n : Bytes) (room : length (recordField k) ≤ length 
   named c size z =
       rw (laid, z) (ap (λ (l : Bytes). getD k 0 0 ∷ l) (take-at (drop 1 k) (drop (length (recordField k)) n₀) (length (recordField k) - 3) (omega arith)) ∙ sym c)
 
+-- ---- find_named
+
+module _ (s : Bytes) (x : ℕ) where
+  field-some : 3 ≤ length (recordField (keyAt s x))
+  unfolding run.field
+  field-some = omega arith
+
+  module _ (n₀ : Bytes) (room : length (recordField (keyAt s x)) ≤ length n₀) where
+    pub name-room : 0 + length (recordField (keyAt s x)) ≤ length n₀
+    name-room = omega arith
+
+    module _ (n : Bytes) (e : n ≡ sets n₀ 0 (recordField (keyAt s x))) where
+      pub name-some : 0 < length n
+      name-some = let z : length n ≡ length n₀ = ap length e ∙ length-sets n₀ 0 (recordField (keyAt s x)) in omega (arith, z, room, field-some)
+
+      pub name-is : (a : Bytes) (from size : ℕ) → size ≡ length (recordField (keyAt s x)) → (r : Found)
+          → Finds a from (keyIn n (record { kind = getD n 0 0; from = 3; to = size })) r → Finds a from (keyAt s x) r
+      name-is a from size z r h =
+          subst (λ (y : Bytes). Finds a from y r) (named (keyAt s x) n₀ n room e (key-cons s x) size z) h
+
+pub ruleset naming = (name-room, name-some, name-is)
+
+-- ---- find_exactly
+
 pub record-short : (s : Bytes) (x : ℕ) → Payload s x → length (recordField (keyAt s x)) ≤ 1056
 unfolding run.field
 record-short s x p = let h = key-short s x p in omega (arith, h, length-drop 1 (keyAt s x))
 
-module _ (a : Bytes) (from : ℕ) (s : Bytes) (x : ℕ) (p : Payload s x) where
-  pub find-is : ((i : ℕ) → Fits w8 (getD s i 0)) → ((i : ℕ) → Fits w8 (getD a i 0)) → Ready Announced a from
-      → (n₀ n : Bytes) → length n₀ ≡ 1056 → (size : ℕ) → size ≡ length (recordField (keyAt s x)) → n ≡ sets n₀ 0 (recordField (keyAt s x))
-      → (b : ℕ) → b ≡ frontKey (keyAt s x) → (at count : ℕ) → Seeks a from b at count
-      → (r : Found) → Finds a at (keyIn n (record { kind = getD n 0 0; from = 3; to = size })) r → Finds a from (keyAt s x) r
-  find-is os oa g n₀ n l size z e b f at count k r h =
-      let q : keyIn n (record { kind = getD n 0 0; from = 3; to = size }) ≡ keyAt s x = named (keyAt s x) n₀ n (rw l (record-short s x p)) e (key-cons s x) size z in
-      joined (subst (λ (y : Bytes). Finds a at y r) q h)
+pub long-room : (s : Bytes) (x : ℕ) → Payload s x → (n : Bytes) → length n ≡ 1056 → length (recordField (keyAt s x)) ≤ length n
+long-room s x p n l = omega (arith, l, record-short s x p)
+
+-- the record of a prefix
+prefix-short : (s : Bytes) (x : ℕ) → Sized s x → (typeAt s x ≡ 9 → ⊥) → length (keyAt s x) ≤ 24
+unfolding keyAt
+prefix-short s x (v4 t e) q =
+    let z : eqb (typeAt s x) 4 ≡ true = rw t in
+    let a : length (part s (x + 12) (x + 16)) ≤ x + 16 - (x + 12) = part-short s x (x + 12) (x + 16) in
+    let b : length (part s (x + 16) (x + 20)) ≤ x + 20 - (x + 16) = part-short s x (x + 16) (x + 20) in
+    let r : length {A = ℕ} (replicate 12 0) ≡ 12 = length-replicate {A = ℕ} 12 0 in
+    let u = length-append (part s (x + 12) (x + 16)) (replicate 12 0 ++ (getD s (x + 9) 0 ∷ getD s (x + 10) 0 ∷ part s (x + 16) (x + 20))) in
+    let w = length-append {A = ℕ} (replicate 12 0) (getD s (x + 9) 0 ∷ getD s (x + 10) 0 ∷ part s (x + 16) (x + 20)) in
+    rw z (omega (arith, a, b, r, u, w))
+prefix-short s x (v6 t e) q =
+    let y : eqb (typeAt s x) 4 ≡ false = rw t in
+    let z : eqb (typeAt s x) 6 ≡ true = rw t in
+    let a : length (part s (x + 12) (x + 28)) ≤ x + 28 - (x + 12) = part-short s x (x + 12) (x + 28) in
+    let b : length (part s (x + 28) (x + 32)) ≤ x + 32 - (x + 28) = part-short s x (x + 28) (x + 32) in
+    let u = length-append (part s (x + 12) (x + 28)) (getD s (x + 9) 0 ∷ getD s (x + 10) 0 ∷ part s (x + 28) (x + 32)) in
+    rw (y, z) (omega (arith, a, b, u))
+prefix-short s x (key t l h) q = absurd (q t)
+
+pub short-room : (s : Bytes) (x : ℕ) → Payload s x → (t : ℕ) → t ≡ typeAt s x → (t ≡ 9 → ⊥) → (n : Bytes) → length n ≡ 32 → length (recordField (keyAt s x)) ≤ length n
+unfolding run.field
+short-room s x p t e q n l = let h = prefix-short s x (p .sized) (λ y. q (e ∙ y)) in omega (arith, l, h, length-drop 1 (keyAt s x))
+
+pub ruleset exactly = (long-room, short-room)
+
+-- ---- is_past
+
+module _ (a : Bytes) (at : ℕ) (r : Ready Announced a at) (front : ℕ) where
+  pub past-end : length a ≤ at → IsPast a at front true
+  unfolding entries
+  past-end h = record { past = λ q k e. rw (none (drop at a) (length-drop at a ∙ omega arith)) tt }
     where
-      first-low : (l : S) → All (λ (y : Item Bytes Bytes). frontKey (y .key) < b) l → All (λ (y : Item Bytes Bytes). bytes (y .key) (keyAt s x) ≡ Less) l
-      first-low [] w = tt
-      first-low (y ∷ l) w = (front-less (y .key) (keyAt s x) (key-bytes s x os) (rw f at (w .0)), first-low l (w .1))
+      none : (l : Bytes) → length l ≡ 0 → items l ≡ []
+      none [] z = entries-end Snapshot
+      none (y ∷ l) z = absurd (omega arith)
 
-      joined : Finds a at (keyAt s x) r → Finds a from (keyAt s x) r
-      joined d = record {
-        passed = k .passed ++ d .passed;
-        low = all-append (λ (y : Item Bytes Bytes). bytes (y .key) (keyAt s x) ≡ Less) (k .passed) (d .passed) (first-low (k .passed) (k .low)) (d .low);
-        bytes-are = encode-append (k .passed) (d .passed)
-            ∙ ap₂ (λ (u w : Bytes). u ++ w) (passed-bytes a from at g (k .ready) (k .on) oa (k .passed) (k .split)) (d .bytes-are)
-            ∙ part-split a from at (r .at) (k .on) (d .on);
-        here = d .here;
-        is-here = d .is-here;
-        counted = d .counted;
-        split = k .split ∙ ap (λ (l : S). k .passed ++ l) (d .split) ∙ sym (append-assoc (k .passed) (d .passed) (d .here ++ items (drop (r .next) a)));
-        rest = d .rest;
-        on = omega (arith, k .on, d .on);
-        within = d .within;
-        ready = d .ready;
-      }
+  pub past-unsure : IsPast a at front false
+  past-unsure = record { past = λ q. absurd (let z : _≡_ {A = ℕ} 0 1 = cc in omega arith) }
 
-  pub find-room : (n₀ : Bytes) → length n₀ ≡ 1056 → 0 + length (recordField (keyAt s x)) ≤ length n₀
-  find-room n₀ l = omega (arith, l, record-short s x p)
+  module _ (h : 11 ≤ length a - at) where
+    pub past-in : at < length a
+    past-in = omega arith
 
-  pub find-from : (b at count : ℕ) → Seeks a from b at count → Ready Announced a at
-  find-from b at count k = k .ready
+    pub past-word : at + 3 + 8 ≤ length a
+    past-word = omega arith
 
-pub ruleset finding = (find-is, find-room, find-from)
+    pub past-front : ((i : ℕ) → Fits w8 (getD a i 0)) → (w v : ℕ) → w ≡ wordAt a (at + 3) → v ≡ frontIn (getD a at 0) w → (b : Bool) → b ≡ ltb front v → IsPast a at front b
+    past-front o w v q z b e = record {
+      past = λ t k f.
+        let g = here Snapshot a at (r .good) past-in in
+        let c : getD a at 0 ≡ kindOf Snapshot (g .tag) = g .is ∙ sym (snapshot-kind (g .tag) (g .body) (g .good)) in
+        let u : v ≡ frontKey (entryOf Snapshot (cell Snapshot a at (r .good) past-in) .key) = z ∙ rw (q, c) (sym (front-is Snapshot a at (r .good) past-in o (omega arith))) in
+        let y : front < v = ltb-true front v (sym e ∙ t) in
+        rw (said Snapshot a at (r .good) past-in)
+        (front-less k (entryOf Snapshot (cell Snapshot a at (r .good) past-in) .key) (heres.octets Snapshot a at (r .good) past-in o) (omega (arith, f, u, y)));
+    }
+
+pub ruleset pasts = (past-end, past-unsure, past-in, past-word, past-front)
+
+-- ---- find
+
+module _ (a : Bytes) (from : ℕ) (s : Bytes) (x : ℕ) (p : Payload s x) (os : (i : ℕ) → Fits w8 (getD s i 0)) (oa : (i : ℕ) → Fits w8 (getD a i 0)) (g : Ready Announced a from)
+    (b : ℕ) (f : b ≡ frontKey (keyAt s x)) (at count : ℕ) (k : Seeks a from b at count) where
+  first-low : (l : S) → All (λ (y : Item Bytes Bytes). frontKey (y .key) < b) l → All (λ (y : Item Bytes Bytes). bytes (y .key) (keyAt s x) ≡ Less) l
+  first-low [] w = tt
+  first-low (y ∷ l) w = (front-less (y .key) (keyAt s x) (key-bytes s x os) (rw f at (w .0)), first-low l (w .1))
+
+  pub find-from : Ready Announced a at
+  find-from = k .ready
+
+  pub find-past : (r : Bool) → IsPast a at b r → r ≡ true → Finds a from (keyAt s x) (record { at = at; next = at; here = false })
+  find-past r q e =
+      absent a from (keyAt s x) at (record { passed = k .passed; low = first-low (k .passed) (k .low); split = k .split; on = k .on; start = g; ready = k .ready }) oa
+      (q .past e (keyAt s x) (sym f))
+
+  pub find-on : (r : Found) → Finds a at (keyAt s x) r → Finds a from (keyAt s x) r
+  find-on r d = record {
+    passed = k .passed ++ d .passed;
+    low = all-append (λ (y : Item Bytes Bytes). bytes (y .key) (keyAt s x) ≡ Less) (k .passed) (d .passed) (first-low (k .passed) (k .low)) (d .low);
+    bytes-are = encode-append (k .passed) (d .passed)
+        ∙ ap₂ (λ (u w : Bytes). u ++ w) (passed-bytes a from at g (k .ready) (k .on) oa (k .passed) (k .split)) (d .bytes-are)
+        ∙ part-split a from at (r .at) (k .on) (d .on);
+    here = d .here;
+    is-here = d .is-here;
+    counted = d .counted;
+    split = k .split ∙ ap (λ (l : S). k .passed ++ l) (d .split) ∙ sym (append-assoc (k .passed) (d .passed) (d .here ++ items (drop (r .next) a)));
+    rest = d .rest;
+    on = omega (arith, k .on, d .on);
+    within = d .within;
+    ready = d .ready;
+  }
+
+pub ruleset finding = (find-from, find-past, find-on)

@@ -16,6 +16,7 @@ use Rattle.field.specs.Places.{part}
 use Rattle.payload.specs.Content.{Bytes}
 use Rattle.payload.specs.Payload.{encode, items}
 use Rattle.item.specs.declared.reading.Reading.the-variants.{Announced}
+use Rattle.item.specs.Front.{frontKey}
 use Rattle.item.specs.Reading.{Ready}
 use Rattle.delta.specs.declared.admit.Admitted.the-variants.{Yes}
 use Rattle.delta.specs.Admission.{admitOneOf}
@@ -96,6 +97,10 @@ pub record Finds (a : Bytes) (from : ℕ) (k : Bytes) (r : Found) : Type 0 where
   pub on : from ≤ r .at
   pub within : r .at ≤ length a
   pub ready : Ready Announced a (r .next)
+
+-- each record with this front stands below what a has from `at` on
+pub record IsPast (a : Bytes) (at front : ℕ) (r : Bool) : Type 0 where
+  pub past : r ≡ true → (k : Bytes) → frontKey k ≡ front → Below bytes k (items (drop at a))
 
 -- ---- the search for faults
 
