@@ -381,12 +381,12 @@ module _ (a : Bytes) (at : ℕ) (r : Ready Announced a at) (front : ℕ) where
     pub past-front : ((i : ℕ) → Fits w8 (getD a i 0)) → (w v : ℕ) → w ≡ wordAt a (at + 3) → v ≡ frontIn (getD a at 0) w → (b : Bool) → b ≡ ltb front v → IsPast a at front b
     past-front o w v q z b e = record {
       past = λ t k f.
-        let g = here Snapshot a at (r .good) past-in in
-        let c : getD a at 0 ≡ kindOf Snapshot (g .tag) = g .is ∙ sym (snapshot-kind (g .tag) (g .body) (g .good)) in
-        let u : v ≡ frontKey (entryOf Snapshot (cell Snapshot a at (r .good) past-in) .key) = z ∙ rw (q, c) (sym (front-is Snapshot a at (r .good) past-in o (omega arith))) in
-        let y : front < v = ltb-true front v (sym e ∙ t) in
-        rw (said Snapshot a at (r .good) past-in)
-        (front-less k (entryOf Snapshot (cell Snapshot a at (r .good) past-in) .key) (heres.octets Snapshot a at (r .good) past-in o) (omega (arith, f, u, y)));
+          let g = here Snapshot a at (r .good) past-in in
+          let c : getD a at 0 ≡ kindOf Snapshot (g .tag) = g .is ∙ sym (snapshot-kind (g .tag) (g .body) (g .good)) in
+          let u : v ≡ frontKey (entryOf Snapshot (cell Snapshot a at (r .good) past-in) .key) = z ∙ rw (q, c) (sym (front-is Snapshot a at (r .good) past-in o (omega arith))) in
+          let y : front < v = ltb-true front v (sym e ∙ t) in
+          rw (said Snapshot a at (r .good) past-in)
+          (front-less k (entryOf Snapshot (cell Snapshot a at (r .good) past-in) .key) (heres.octets Snapshot a at (r .good) past-in o) (omega (arith, f, u, y)));
     }
 
 pub ruleset pasts = (past-end, past-unsure, past-in, past-word, past-front)
