@@ -28,20 +28,19 @@ use Rattle.cursors.specs.Cursor.{leftOf, runs, itemsLeft, Within, Walks, ItemFi
 use Rattle.cursors.specs.Front.{Fronted, line}
 use Rattle.wire.specs.declared.tally.Tally.{Tally}
 use Rattle.wire.specs.Answer.{allNew}
-use Rattle.wire.specs.Tally.{saying, plusAll, start, Room, Says, ItemIs}
+use Rattle.wire.specs.declared.origins.Run.{Run}
+use Rattle.wire.specs.Tally.{saying, plusAll, start, Room, Says, Steps, ItemIs}
+use Rattle.wire.specs.Left.{Left, Listed, Passed}
 use Rattle.wire.specs.Put.{Merges, Holds, LaidIs}
 use Rattle.wire.proofs.Saying.{X, D, saying-cons, saying-none, plus-cons, plus-none}
 
--- what was written, with what is left, is the whole
-pub record Left (v : Version) (t : Tally) (o : Bytes) (d : D) (o₀ : Bytes) (d₀ : D) : Type 0 where
-  pub tally : plusAll v t d ≡ plusAll v start d₀
-  pub same : length o ≡ length o₀
-  pub laid : 8 + length (saying v d₀) ≤ length o₀ → sets o (t .len) (saying v d) ≡ sets o₀ 8 (saying v d₀)
+module _ (v : Version) (t : Tally) (o : Bytes) (d : D) (t₀ : Tally) (o₀ : Bytes) (d₀ : D) (l : Left v t o d t₀ o₀ d₀) where
+  left-len : t .len + length (saying v d) ≡ t₀ .len + length (saying v d₀)
+  left-len = ap (λ (u : Tally). u .len) (l .tally)
 
-module _ (v : Version) (t : Tally) (o : Bytes) (d : D) (o₀ : Bytes) (d₀ : D) (l : Left v t o d o₀ d₀) where
-  left-one : (x : X) (d′ : D) (o′ : Bytes) (r : Tally) → d ≡ x ∷ d′ → ItemIs v x t o o′ r → Left v r o′ d′ o₀ d₀
+  pub left-one : (x : X) (d′ : D) (o′ : Bytes) (r : Tally) → d ≡ x ∷ d′ → ItemIs v x t o o′ r → Left v r o′ d′ t₀ o₀ d₀
   left-one x d′ o′ r e i =
-      let len : t .len + length (saying v d) ≡ 8 + length (saying v d₀) = ap (λ (u : Tally). u .len) (l .tally) in
+      let len = left-len in
       let cut : saying v d ≡ saying v (x ∷ []) ++ saying v d′ = ap (saying v) e ∙ saying-cons v x d′ in
       let long : length (saying v d) ≡ length (saying v (x ∷ [])) + length (saying v d′) = ap length cut ∙ length-append (saying v (x ∷ [])) (saying v d′) in
       let rl : r .len ≡ t .len + length (saying v (x ∷ [])) = ap (λ (u : Tally). u .len) (i .tally) in
@@ -54,6 +53,17 @@ module _ (v : Version) (t : Tally) (o : Bytes) (d : D) (o₀ : Bytes) (d₀ : D)
             ∙ sym (sets-append (saying v (x ∷ [])) (saying v d′) o (t .len)) ∙ ap (sets o (t .len)) (sym cut) ∙ l .laid g;
       }
 
+  -- one behind the other
+  left-then : (t′ : Tally) (o′ : Bytes) (d′ : D) → Left v t′ o′ d′ t o d → Left v t′ o′ d′ t₀ o₀ d₀
+  left-then t′ o′ d′ m =
+      let len = left-len in
+      record {
+        tally = m .tally ∙ l .tally;
+        same = m .same ∙ l .same;
+        laid = λ g. m .laid (omega (arith, len, l .same)) ∙ l .laid g;
+      }
+
+module _ (v : Version) (t : Tally) (o : Bytes) (d : D) (o₀ : Bytes) (d₀ : D) (l : Left v t o d start o₀ d₀) where
   left-none : d ≡ [] → Room t → LaidIs v d₀ o₀ o t
   left-none e r = record {
     tally = sym (plus-none v t) ∙ ap (plusAll v t) (sym e) ∙ l .tally;
@@ -76,7 +86,7 @@ pub record Putting (v : Version) (s : Bytes) (at₀ ends f₀ : List ℕ) (from 
   pub keys : t .keys + itemsLeft s at ends from n ≤ 33_554_432
   pub aspas : t .aspas + itemsLeft s at ends from n ≤ 33_554_432
   pub valid : All (Valid Delta) (leftOf s at ends from n)
-  pub left : Left v t o (leftOf s at ends from n) o₀ (leftOf s at₀ ends from n)
+  pub left : Left v t o (leftOf s at ends from n) start o₀ (leftOf s at₀ ends from n)
 
 pub put-within : (s : Bytes) (at ends : List ℕ) (from n : ℕ) → Merges s at ends from n → Within s at ends n
 put-within s at ends from n m = m .bounded .walks .within
@@ -149,7 +159,7 @@ module _ (v : Version) (s : Bytes) (at₀ ends f₀ : List ℕ) (from n : ℕ) (
             keys = omega (arith, i .keys, put-less, z .steps .keys);
             aspas = omega (arith, i .aspas, put-less, z .steps .aspas);
             valid = rest-valid .1;
-            left = left-one v t o _ o₀ _ (i .left) (itemIn s s key act) (leftOf s at′ ends from n) o′ t′ first z;
+            left = left-one v t o _ start o₀ _ (i .left) (itemIn s s key act) (leftOf s at′ ends from n) o′ t′ first z;
           }
 
 -- the measure of the loop
@@ -160,78 +170,96 @@ pub ruleset putting = (put-within, put-start, put-fronted, put-walks, put-room, 
 
 -- ---- the fields of a snapshot
 
+-- one field more
+pub listed-more : (s : Bytes) (at next : ℕ) (t r : Tally) (x : X) → Listed s at t → at < next → Ready Announced s next → Steps t r →
+    readAs Announced (drop at s) ≡ x ∷ readAs Announced (drop next s) → Listed s next r
+listed-more s at next t r x l ahead ready z e =
+    let a : All (Valid Delta) (x ∷ readAs Announced (drop next s)) = rw e at (l .valid) in
+    record {
+      ready = ready;
+      small = l .small;
+      len = omega (arith, l .len, ahead, z .len);
+      announced = omega (arith, l .announced, ahead, z .announced);
+      withdrawn = omega (arith, l .withdrawn, ahead, z .withdrawn);
+      keys = omega (arith, l .keys, ahead, z .keys);
+      aspas = omega (arith, l .aspas, ahead, z .aspas);
+      valid = a .1;
+    }
+
+pub listed-room : (s : Bytes) (at : ℕ) (t : Tally) → Listed s at t → Room t
+listed-room s at t l =
+    let w = l .ready .within in
+    record {
+      len = omega (arith, l .len, l .small);
+      announced = omega (arith, l .announced, l .small);
+      withdrawn = omega (arith, l .withdrawn, l .small);
+      keys = omega (arith, l .keys, l .small);
+      aspas = omega (arith, l .aspas, l .small);
+    }
+
 pub record Listing (v : Version) (s o₀ : Bytes) (at : ℕ) (o : Bytes) (t : Tally) : Type 0 where
-  pub ready : Ready Announced s at
-  pub small : length s ≤ 16_777_216
   pub long : length o ≡ length o₀
-  pub len : t .len ≤ 8 + 1_056 * at
-  pub announced : t .announced ≤ at
-  pub withdrawn : t .withdrawn ≤ at
-  pub keys : t .keys ≤ at
-  pub aspas : t .aspas ≤ at
-  pub valid : All (Valid Delta) (readAs Announced (drop at s))
-  pub left : Left v t o (readAs Announced (drop at s)) o₀ (allNew s)
+  pub listed : Listed s at t
+  pub left : Left v t o (readAs Announced (drop at s)) start o₀ (allNew s)
 
 pub list-start : (v : Version) (s o : Bytes) (t : Tally) → Holds s → t ≡ start → Listing v s o 0 o t
 list-start v s o t h e = rw e (record {
-  ready = ready-start Announced s (h .fine);
-  small = h .small;
   long = refl;
-  len = omega arith;
-  announced = omega arith;
-  withdrawn = omega arith;
-  keys = omega arith;
-  aspas = omega arith;
-  valid = diff-map [] _ (record { sorted = tt; valid = tt }) (faithful Snapshot .map-of s (h .fine)) .valid;
+  listed = record {
+    ready = ready-start Announced s (h .fine);
+    small = h .small;
+    len = omega arith;
+    announced = omega arith;
+    withdrawn = omega arith;
+    keys = omega arith;
+    aspas = omega arith;
+    valid = diff-map [] _ (record { sorted = tt; valid = tt }) (faithful Snapshot .map-of s (h .fine)) .valid;
+  };
   left = record { tally = refl; same = refl; laid = λ g. refl };
 })
 
 module _ (v : Version) (s o₀ : Bytes) (at : ℕ) (o : Bytes) (t : Tally) (i : Listing v s o₀ at o t) where
-  pub list-ready : Ready Announced s at
-  list-ready = i .ready
+  pub list-listed : Listed s at t
+  list-listed = i .listed
 
-  pub list-room : Room t
-  list-room =
-      let w = i .ready .within in
-      record {
-        len = omega (arith, i .len, i .small);
-        announced = omega (arith, i .announced, i .small);
-        withdrawn = omega (arith, i .withdrawn, i .small);
-        keys = omega (arith, i .keys, i .small);
-        aspas = omega (arith, i .aspas, i .small);
-      }
+  -- behind a run of origins
+  module _ (o₁ : Bytes) (run : Run) (p : Passed v s at t o o₁ run) where
+    left : Left v (run .tally) o₁ (readAs Announced (drop (run .at) s)) start o₀ (allNew s)
+    left = left-then v t o _ start o₀ _ (i .left) (run .tally) o₁ _ (p .left)
 
-  module _ (r : Read) (x : Reads Announced s at r) where
-    pub list-end : r ≡ read.End → LaidIs v (allNew s) o₀ o t
-    list-end q = left-none v t o _ o₀ _ (i .left) (rw q at (x .is)) list-room
+    pub list-ready : Ready Announced s (run .at)
+    list-ready = p .listed .ready
 
-    module _ (e : Entry) (q : r ≡ read.One e) where
-      first-field : readAs Announced (drop at s) ≡ itemIn s s (e .key) (e .act) ∷ readAs Announced (drop (e .next) s)
-      first-field = rw q at (x .is)
+    pub list-room : Room (run .tally)
+    list-room = listed-room s (run .at) (run .tally) (p .listed)
 
-      fields-valid : All (Valid Delta) (itemIn s s (e .key) (e .act) ∷ readAs Announced (drop (e .next) s))
-      fields-valid = rw first-field at (i .valid)
+    pub list-long : length o₁ ≡ length o₀
+    list-long = p .left .same ∙ i .long
 
-      pub list-says : Says s (e .key) (e .act)
-      list-says = let f = rw q at (x .fits) in record { key-in = f .key; valid = fields-valid .0 }
+    module _ (r : Read) (x : Reads Announced s (run .at) r) where
+      pub list-end : r ≡ read.End → LaidIs v (allNew s) o₀ o₁ (run .tally)
+      list-end q = left-none v (run .tally) o₁ _ o₀ _ left (rw q at (x .is)) list-room
 
-      pub list-less : length s - e .next < length s - at
-      list-less = let f = rw q at (x .fits) in omega (arith, f .ahead, f .ready .within)
+      module _ (e : Entry) (q : r ≡ read.One e) where
+        first-field : readAs Announced (drop (run .at) s) ≡ itemIn s s (e .key) (e .act) ∷ readAs Announced (drop (e .next) s)
+        first-field = rw q at (x .is)
 
-      pub list-again : (o′ : Bytes) (t′ : Tally) → ItemIs v (itemIn s s (e .key) (e .act)) t o o′ t′ → Listing v s o₀ (e .next) o′ t′
-      list-again o′ t′ z =
-          let f = rw q at (x .fits) in
-          record {
-            ready = f .ready;
-            small = i .small;
-            long = z .same ∙ i .long;
-            len = omega (arith, i .len, f .ahead, z .steps .len);
-            announced = omega (arith, i .announced, f .ahead, z .steps .announced);
-            withdrawn = omega (arith, i .withdrawn, f .ahead, z .steps .withdrawn);
-            keys = omega (arith, i .keys, f .ahead, z .steps .keys);
-            aspas = omega (arith, i .aspas, f .ahead, z .steps .aspas);
-            valid = fields-valid .1;
-            left = left-one v t o _ o₀ _ (i .left) (itemIn s s (e .key) (e .act)) (readAs Announced (drop (e .next) s)) o′ t′ first-field z;
-          }
+        pub list-says : Says s (e .key) (e .act)
+        list-says =
+            let f = rw q at (x .fits) in
+            let a : All (Valid Delta) (itemIn s s (e .key) (e .act) ∷ readAs Announced (drop (e .next) s)) = rw first-field at (p .listed .valid) in
+            record { key-in = f .key; valid = a .0 }
 
-pub ruleset listing = (list-start, list-ready, list-room, list-end, list-says, list-less, list-again)
+        pub list-less : length s - e .next < length s - at
+        list-less = let f = rw q at (x .fits) in omega (arith, p .on, f .ahead, f .ready .within)
+
+        pub list-again : (o′ : Bytes) (t′ : Tally) → ItemIs v (itemIn s s (e .key) (e .act)) (run .tally) o₁ o′ t′ → Listing v s o₀ (e .next) o′ t′
+        list-again o′ t′ z =
+            let f = rw q at (x .fits) in
+            record {
+              long = z .same ∙ list-long;
+              listed = listed-more s (run .at) (e .next) (run .tally) t′ (itemIn s s (e .key) (e .act)) (p .listed) (f .ahead) (f .ready) (z .steps) first-field;
+              left = left-one v (run .tally) o₁ _ start o₀ _ left (itemIn s s (e .key) (e .act)) (readAs Announced (drop (e .next) s)) o′ t′ first-field z;
+            }
+
+pub ruleset listing = (list-start, list-listed, list-ready, list-room, list-long, list-end, list-says, list-less, list-again)

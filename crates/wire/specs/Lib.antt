@@ -3,3 +3,4 @@ pub mod Answer
 -- what the contracts of inner functions say
 pub mod Tally
 pub mod Put
+pub mod Left

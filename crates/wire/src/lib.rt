@@ -3,6 +3,7 @@ pub mod deltas;
 pub mod frame;
 pub mod full;
 pub mod notify;
+pub mod origins;
 pub mod query;
 pub mod sent;
 pub mod snapshot;

@@ -3,6 +3,7 @@ use crate::frame::Frame;
 use crate::frame::close;
 use crate::frame::open;
 use crate::frame::opened;
+use crate::origins::put_origins;
 use crate::sent::Writing;
 use crate::tally::Tally;
 use crate::tally::put_item;
@@ -16,7 +17,7 @@ ghost use lib.ListN.{length};
 ghost use Rattle.wire.specs.Answer.{allNew, answerBytes};
 ghost use Rattle.wire.specs.Put.{Holds, LaidIs, AnswerIs, TallyIs, writingOf, answerOut};
 
-// The messages of a good snapshot.
+// The messages of a good snapshot: runs of origins, and the fields between them.
 fn put_items(version: Version, s: &[u8], out: &mut [u8]) -> Tally
     requires { ⌜ Holds (now s) ⌝ }
     ensures { λ r. ⌜ LaidIs version (allNew (now (s .entry))) (now (out .entry)) (now (out .exit)) r ⌝ }
@@ -24,12 +25,14 @@ fn put_items(version: Version, s: &[u8], out: &mut [u8]) -> Tally
     let mut t = opened();
     let mut at = 0;
     loop {
-        let Read::One(entry) = read_at(Reading::Announced, s, at) else {
-            return t;
+        let run = put_origins(version, s, at, out, t);
+        let sum = run.tally;
+        let Read::One(entry) = read_at(Reading::Announced, s, run.at) else {
+            return sum;
         };
         let key = entry.key;
         let act = entry.act;
-        t = put_item(version, s, key, act, out, t);
+        t = put_item(version, s, key, act, out, sum);
         at = entry.next;
     }
 }

@@ -17,6 +17,9 @@ opened-requires c κs = search (listing, needs)
 loop-holds : tie.Need-loop-holds Inv-loop μ-loop
 loop-holds c = search (listing, needs)
 
+put-origins-requires : tie.Need-put-origins-requires Inv-loop μ-loop
+put-origins-requires c κs = search (listing, needs)
+
 read-at-requires : tie.Need-read-at-requires Inv-loop μ-loop
 read-at-requires c κs = search (listing, needs)
 
@@ -49,6 +52,7 @@ put-items-spec =
     μ-loop
     opened-requires
     loop-holds
+    put-origins-requires
     read-at-requires
     enum-known-entry
     enum-told
