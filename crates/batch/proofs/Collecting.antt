@@ -6,19 +6,21 @@ use mathlib.Core.Bool.{Bool, true, false, not, cond, _&&_}
 use native.Mathlib.Omega.{arith}
 use native.Mathlib.Numerals.{add-one}
 use native.Mathlib.Decide.{ℕ-discrete}
-use mir.Syntax.{w64}
+use mir.Syntax.{w8, w64}
 use mir.Val.{Fits}
 use lib.Dec.{eqb}
 use lib.ListN.{length, getD, take, drop, set, length-set, length-take}
 use lib.Seq.{take-all, take-suc-set, getD-set-same, getD-set-other, getD-take, length-take-le}
 use borrow.Author.Tests.{eqb-true, eqb-false, eq-eqb, ne-eqb}
 use Rattle.payload.specs.Content.{Bytes}
-use Rattle.heard.specs.Place.{Messages, done, more, Payload, sizeAt, precedes}
+use Rattle.item.specs.Front.{frontKey}
+use Rattle.heard.specs.Place.{Messages, done, more, Payload, sizeAt, keyAt, precedes}
+use Rattle.heard.proofs.Comparing.{front-before, front-behind}
 use Rattle.batch.specs.declared.collect.Part.{Part}
 use Rattle.batch.specs.declared.collect.Gap.{Gap}
 use Rattle.batch.specs.declared.next.Batch.{Batch}
 use Rattle.batch.specs.Next.{sorted, isAbove, left, NextIs}
-use Rattle.batch.specs.Keep.{only, isUpTo, isWanted, In, Bound, none, one, Held, SortedIs, FirstSorted, Told, Trims, Trimmed, kept, cut, Takes, Taken, TopIs, all, Collected}
+use Rattle.batch.specs.Keep.{only, isUpTo, isWanted, frontOr, In, Bound, none, one, Held, SortedIs, FirstSorted, Told, Trims, Trimmed, kept, cut, Takes, Taken, TopIs, all, Collected}
 use Rattle.batch.specs.Keep as keep
 use Rattle.batch.specs.Map.{Hint, Hinted, Chunk, Marked, Tops, Clears, Clear, Skips, Passes}
 use Rattle.batch.specs.Map as map
@@ -56,6 +58,39 @@ module _ (s : Bytes) (low x : ℕ) where
   pub first-fails : (top : ℕ) (r : Bool) → r ≡ isAbove s low x → r ≡ false → false ≡ isWanted s low top x
   unfolding isWanted
   first-fails top r e f = rw (sym e ∙ f)
+
+  -- ---- by fronts
+
+  pub front-none : (n : ℕ) → low ≡ 0 → n ≡ frontOr s low n
+  unfolding frontOr
+  front-none n e = rw e
+
+  pub front-some : (n r : ℕ) → (low ≡ 0 → ⊥) → r ≡ frontKey (keyAt s low) → r ≡ frontOr s low n
+  unfolding frontOr
+  front-some n r q e = rw (ne-eqb low 0 q) e
+
+module _ (s : Bytes) (o : (i : ℕ) → Fits w8 (getD s i 0)) (low top x : ℕ) (p : Payload s x) (f : ℕ) (d : f ≡ frontKey (keyAt s x)) where
+  pub front-under : Bound s low → (least : ℕ) → least ≡ frontOr s low 0 → f < least → false ≡ isWanted s low top x
+  unfolding frontOr isAbove isWanted
+  front-under b least e h = go (ℕ-discrete low 0)
+    where
+      go : Dec (low ≡ 0) → false ≡ isWanted s low top x
+      go (yes z) = absurd (let w : least ≡ 0 = e ∙ rw z in omega (arith, h, w))
+      go (no z) =
+          let q : least ≡ frontKey (keyAt s low) = e ∙ rw (ne-eqb low 0 z) in
+          rw (ne-eqb low 0 z, ← front-behind s o low x (bound-good s low x b z) p least f q d h)
+
+  pub front-over : Bound s top → (most : ℕ) → most ≡ frontOr s top 18446744073709551615 → f < 18446744073709551616 → most < f → false ≡ isWanted s low top x
+  unfolding frontOr isUpTo
+  front-over b most e w h = sym (wanted-past s low top x (go (ℕ-discrete top 0)))
+    where
+      go : Dec (top ≡ 0) → isUpTo s top x ≡ false
+      go (yes z) = absurd (let y : most ≡ 18446744073709551615 = e ∙ rw z in omega (arith, h, y, w))
+      go (no z) =
+          let q : most ≡ frontKey (keyAt s top) = e ∙ rw (ne-eqb top 0 z) in
+          rw (ne-eqb top 0 z, ← front-before s o top x (bound-good s top x b z) p most f q d h)
+
+pub ruleset fronted = (bound-good, front-none, front-some, front-under, front-over)
 
 pub ruleset tests = (bound-good, above-all, above-some, upto-none, upto-some, both-tests, first-fails)
 

@@ -6,7 +6,8 @@ use mathlib.Core.Bool.{Bool, true, false, not, cond, _&&_}
 use lib.Dec.{eqb}
 use lib.ListN.{length, getD, take, drop, set}
 use Rattle.payload.specs.Content.{Bytes}
-use Rattle.heard.specs.Place.{Messages, Payload, precedes}
+use Rattle.item.specs.Front.{frontKey}
+use Rattle.heard.specs.Place.{Messages, Payload, keyAt, precedes}
 use Rattle.batch.specs.declared.collect.Part.{Part}
 use Rattle.batch.specs.Next.{sorted, isAbove}
 
@@ -21,6 +22,10 @@ isUpTo s top x = cond (eqb top 0) true (not (precedes s top x))
 
 unfoldable pub isWanted : Bytes → ℕ → ℕ → ℕ → Bool
 isWanted s low top x = isAbove s low x && isUpTo s top x
+
+-- the front of a message's record; of none (0), this number
+unfoldable pub frontOr : Bytes → ℕ → ℕ → ℕ
+frontOr s x none = cond (eqb x 0) none (frontKey (keyAt s x))
 
 -- x stands in the list
 pub data In (x : ℕ) : List ℕ → Type 0 where

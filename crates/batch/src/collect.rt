@@ -1,6 +1,7 @@
 // Walking the messages, with the least of those that are left in the buffer.
 use crate::sort::sort;
 use heard::compare::is_before;
+use heard::front::front_at;
 use heard::place::size_at;
 ghost use mathlib.Core.Path.{_≡_};
 ghost use Prim.Native.Nat.{_≤_};
@@ -8,7 +9,7 @@ ghost use lib.ListN.{length};
 ghost use Rattle.heard.specs.Place.{Payload};
 ghost use Rattle.batch.specs.Next.{isAbove};
 ghost use Rattle.batch.specs.Map.{Marked, Tops, Clears, Clear, Skips, Passes};
-ghost use Rattle.batch.specs.Keep.{Bound, isUpTo, isWanted, Trims, Trimmed, Takes, Taken, Told, Collected};
+ghost use Rattle.batch.specs.Keep.{Bound, isUpTo, isWanted, frontOr, Trims, Trimmed, Takes, Taken, Told, Collected};
 
 pub struct Part {
     // How many offsets the buffer holds.
@@ -46,8 +47,8 @@ fn is_up_to(s: &[u8], top: usize, at: usize) -> bool
     !is_before(s, top, at)
 }
 
-// Whether a message is to be held.
-fn is_wanted(s: &[u8], low: usize, top: usize, at: usize) -> bool
+// Whether a message is behind `low` and not behind `top`.
+fn is_between(s: &[u8], low: usize, top: usize, at: usize) -> bool
     requires { ⌜ Bound (now s) low × Bound (now s) top × Payload (now s) at ⌝ }
     ensures { λ r. ⌜ r ≡ isWanted (now (s .entry)) low top at ⌝ }
 {
@@ -55,6 +56,34 @@ fn is_wanted(s: &[u8], low: usize, top: usize, at: usize) -> bool
         return is_up_to(s, top, at);
     }
     false
+}
+
+// The front of a message; of none, this number.
+fn front_or(s: &[u8], x: usize, none: usize) -> usize
+    requires { ⌜ Bound (now s) x ⌝ }
+    ensures { λ r. ⌜ r ≡ frontOr (now (s .entry)) x none ⌝ }
+{
+    if x == 0 {
+        return none;
+    }
+    front_at(s, x)
+}
+
+// Whether a message is to be held: most are not, by their fronts alone.
+fn is_wanted(s: &[u8], low: usize, top: usize, at: usize) -> bool
+    requires { ⌜ Bound (now s) low × Bound (now s) top × Payload (now s) at ⌝ }
+    ensures { λ r. ⌜ r ≡ isWanted (now (s .entry)) low top at ⌝ }
+{
+    let least = front_or(s, low, 0);
+    let most = front_or(s, top, 18446744073709551615);
+    let front = front_at(s, at);
+    if front < least {
+        return false;
+    }
+    if most < front {
+        return false;
+    }
+    is_between(s, low, top, at)
 }
 
 // Of a full buffer the lower part stays, in order.
