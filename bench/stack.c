@@ -12,8 +12,8 @@ extern void *calloc(size_t, size_t);
 #define DEPTH ((size_t)1 << 20)
 #define STORE ((size_t)1 << 20)
 
-static uint8_t *snapshot, *next, *delta, *later, *snapshots, *deltas, *out;
-static size_t snapshot_length, next_length, delta_length, later_length;
+static uint8_t *snapshot, *next, *delta, *later, *messages, *snapshots, *deltas, *out;
+static size_t snapshot_length, next_length, delta_length, later_length, messages_length;
 static taplevung_state state;
 
 /* Origins, router keys and ASPAs with these tags; the first number of each key is the step. */
@@ -39,6 +39,22 @@ static size_t fill(uint8_t *to, uint32_t items, const uint8_t tags[3], uint8_t s
                 p[7 + 4 * k + 3] = k;
             p += 3 + body;
         }
+    return (size_t)(p - to);
+}
+
+/* An answer that announces so many origins, the last in order first. */
+static size_t answer(uint8_t *to, uint32_t items)
+{
+    static const uint8_t response[8] = {1, 3, 0, 0, 0, 0, 0, 8}, end[8] = {1, 7, 0, 0, 0, 0, 0, 24};
+    static const uint8_t prefix[12] = {1, 4, 0, 0, 0, 0, 0, 20, 1, 32, 32, 0};
+    uint8_t *p = to;
+    for (int k = 0; k < 8; k++)
+        *p++ = response[k];
+    for (uint32_t i = items; i > 0; i--, p += 20)
+        for (int k = 0; k < 20; k++)
+            p[k] = k < 12 ? prefix[k] : k < 16 ? (uint8_t)(i >> (8 * (15 - k))) : 0;
+    for (int k = 0; k < 24; k++)
+        *p++ = k < 8 ? end[k] : 0;
     return (size_t)(p - to);
 }
 
@@ -104,6 +120,10 @@ static uint32_t do_notify_message(void)
 {
     return taplevung_notify_message(state, out, STORE).answer.kind;
 }
+static uint32_t do_judge(void)
+{
+    return taplevung_judge(snapshot, snapshot_length, messages, messages_length, out, STORE).answer.kind;
+}
 
 static const struct {
     const char *name;
@@ -112,6 +132,7 @@ static const struct {
     {"construct", do_construct}, {"merge", do_merge}, {"apply", do_apply}, {"create", do_create},
     {"update", do_update},       {"query", do_query}, {"query_all", do_query_all}, {"full", do_full},
     {"query_messages", do_query_messages}, {"full_messages", do_full_messages}, {"notify_message", do_notify_message},
+    {"judge, of 1 message and of 20,000", do_judge},
 };
 enum { CALLS = sizeof calls / sizeof *calls };
 
@@ -156,8 +177,8 @@ static int history(uint32_t n)
 int main(void)
 {
     static const uint8_t plain[3] = {1, 2, 3}, withdraw[3] = {0x12, 0x22, 0x32}, announce[3] = {0x11, 0x21, 0x31};
-    static const uint32_t sizes[2] = {1, 40}, held[2] = {2, 64};
-    uint8_t **buffers[] = {&snapshot, &next, &delta, &later, &snapshots, &deltas, &out};
+    static const uint32_t sizes[2] = {1, 40}, held[2] = {2, 64}, told[2] = {1, 20000};
+    uint8_t **buffers[] = {&snapshot, &next, &delta, &later, &messages, &snapshots, &deltas, &out};
     size_t used[CALLS][2];
     for (size_t i = 0; i < sizeof buffers / sizeof *buffers; i++)
         if (!(*buffers[i] = calloc(STORE, 1)))
@@ -167,6 +188,7 @@ int main(void)
         next_length = fill(next, sizes[size], plain, 2);
         delta_length = fill(delta, sizes[size], withdraw, 1);
         later_length = fill(later, sizes[size], announce, 1);
+        messages_length = answer(messages, told[size]);
         if (!history(held[size]))
             return 3;
         for (int call = 0; call < CALLS; call++)

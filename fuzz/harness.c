@@ -258,6 +258,86 @@ static size_t put_bytes(struct input *in, enum form form, uint8_t *to)
     return length;
 }
 
+static size_t put_number(uint8_t *to, size_t bytes, uint32_t x)
+{
+    for (size_t i = bytes; i > 0; x >>= 8)
+        to[--i] = (uint8_t)x;
+    return bytes;
+}
+
+/* A message: version, type, two bytes, and the length with these many bytes behind the header. */
+static size_t put_header(uint8_t *to, uint8_t type, uint32_t two, size_t body)
+{
+    to[0] = 1;
+    to[1] = type;
+    put_number(to + 2, 2, two);
+    put_number(to + 4, 4, (uint32_t)(8 + body));
+    return 8 + body;
+}
+
+/* The message of an origin or a router key, by its field. */
+static size_t put_payload(uint8_t *to, const uint8_t *field, uint8_t flags)
+{
+    size_t body = (size_t)field[1] << 8 | field[2], address = field[3] == 4 ? 4 : 16;
+    if (field[0] == 2) {
+        memcpy(to + 8, field + 3, body);
+        return put_header(to, 9, (uint32_t)flags << 8, body);
+    }
+    to[8] = flags;
+    to[9] = field[20];
+    to[10] = field[21];
+    to[11] = 0;
+    memcpy(to + 12, field + 4, address);
+    memcpy(to + 12 + address, field + 22, 4);
+    return put_header(to, field[3], 0, 8 + address);
+}
+
+/* An answer to one who holds the snapshot of n bytes: bytes as they come, or messages that mostly fit, then damaged or
+ * not. */
+static size_t put_messages(struct input *in, uint8_t *to, const uint8_t *snapshot, size_t n)
+{
+    uint32_t mode = u8(in);
+    size_t length = 0;
+    if ((mode & 7) == 7) {
+        for (uint32_t left = u8(in) * 2; left > 0; left--)
+            to[length++] = (uint8_t)u8(in);
+        return length;
+    }
+    static uint8_t field[65536 * 2];
+    uint8_t *set = scratch[3];
+    int fitting = check(SNAPSHOT, snapshot, n).number == 0;
+    memcpy(set, snapshot, n);
+    uint32_t session = u8(in);
+    length = put_header(to, 3, session, 0);
+    for (uint32_t left = mode >> 3; left > 0; left--) {
+        uint32_t what = u8(in);
+        int long_lists = 0;
+        size_t own = put_field(in, SNAPSHOT, field, &long_lists);
+        if (field[0] == 3) {
+            /* a message of another type, with whatever length */
+            to[length + 8] = to[length + 9] = to[length + 10] = to[length + 11] = 0;
+            length += put_header(to + length, (uint8_t)(what & 15), session, what >> 4 & 4);
+            continue;
+        }
+        /* the flags that fit, or as they come */
+        uint8_t flags = (uint8_t)(what & 3);
+        if (fitting && what & 0x70) {
+            flags = take_record(set, n, field, own, 1) >= 0;
+            n = flags ? n + own : (size_t)take_record(set, n, field, own, 0);
+        }
+        length += put_payload(to + length, field, flags);
+    }
+    length += put_header(to + length, 7, session ^ ((mode & 7) == 5), 16);
+    for (size_t i = 16; i > 0; i--)
+        to[length - i] = (uint8_t)u8(in);
+    if ((mode & 7) == 6) {
+        size_t at = (u32(in) & 0xffff) % length;
+        to[at] ^= (uint8_t)u8(in);
+        length -= u8(in) & 31;
+    }
+    return length;
+}
+
 /*------------ Laws --------------------------------------------------------*/
 
 static int refused_with(const taplevung_answer *a, uint32_t number, uint32_t argument, uint64_t offset)
@@ -383,6 +463,42 @@ static void application(struct input *in)
         LAW(a.kind == 1 && a.serial.value == 0);
 }
 
+static void judging(struct input *in)
+{
+    uint32_t places = u8(in);
+    size_t snapshot_length = put_bytes(in, SNAPSHOT, scratch[0]);
+    size_t messages_length = put_messages(in, scratch[1], scratch[0], snapshot_length);
+    struct slice snapshot = lend(0, scratch[0], snapshot_length, places & 1, 0);
+    struct slice messages = lend(1, scratch[1], messages_length, places & 2, 0);
+    struct slice out = lend_output(2, room(in, places), places & 4);
+    taplevung_judged j = taplevung_judge(snapshot.bytes, snapshot.length, messages.bytes, messages.length, out.bytes,
+                                         out.length);
+    const taplevung_answer *a = &j.answer;
+    note(7, a);
+    taplevung_judged rule = {{0, 0, 1, {0}, 0, 0, 0, 0}, {0}, {0, 0, 0}};
+    struct verdict v = check(SNAPSHOT, scratch[0], snapshot_length);
+    rule.answer.number = v.number;
+    rule.answer.offset = v.offset;
+    if (v.number == 0) {
+        memcpy(scratch[2], scratch[0], snapshot_length);
+        rule = judge_into(scratch[2], snapshot_length, scratch[1], messages_length);
+    }
+    if (rule.answer.kind != 0 && rule.answer.length <= out.length) {
+        LAW(accepted(a) && a->kind == 1 && a->serial.value == rule.answer.serial.value);
+        LAW(a->length == rule.answer.length && a->announced == rule.answer.announced);
+        LAW(a->withdrawn == rule.answer.withdrawn && j.session.value == rule.session.value);
+        LAW(memcmp(&j.timing, &rule.timing, sizeof j.timing) == 0);
+        LAW(memcmp(out.bytes, scratch[2], a->length) == 0 && same_from(2, out, a->length));
+        return;
+    }
+    if (rule.answer.kind != 0)
+        LAW(refused_with(a, 4, 0, 0));
+    else
+        LAW(refused_with(a, rule.answer.number, rule.answer.argument, rule.answer.offset));
+    LAW(j.session.value == 0 && j.timing.refresh == 0 && j.timing.retry == 0 && j.timing.expire == 0);
+    LAW(same_from(2, out, 0));
+}
+
 /*------------ A history ---------------------------------------------------*/
 
 /* Its stores are mostly short, for they are copied before each call. */
@@ -430,7 +546,7 @@ static void update(struct input *in, struct history *h, uint32_t places)
                 LAW(made.state.deltas[made.state.n - 1] == added);
                 LAW(memcmp(made.state.deltas, s.deltas + (s.n == s.keep), (made.state.n - 1) * sizeof *s.deltas) == 0);
             } else {
-                LAW(a->serial.value == s.newest.value && a->length == 0 && made.state.n == 0);
+                LAW(a->serial.value == s.start.value && a->length == 0 && made.state.n == 0);
             }
             LAW(held(&made.state) == (s.active ? kept + added : 0));
             LAW(same_from(2, deltas, held(&made.state)));
@@ -764,6 +880,9 @@ int LLVMFuzzerTestOneInput(const uint8_t *data, size_t size)
         LAW(t.refresh == rule.refresh && t.retry == rule.retry && t.expire == rule.expire);
         break;
     }
+    case 4:
+        judging(&in);
+        break;
     default:
         history(&in);
     }

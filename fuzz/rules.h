@@ -1,6 +1,6 @@
 /*
  * Document 01's rules and those of the requests once more, in C: what is good, what a well-formed history is, difference,
- * merge, application, the times and the router messages. The library is held to these.
+ * merge, application, the times, the router messages and what the messages of another cache do. The library is held to these.
  */
 #ifndef RULES_H
 #define RULES_H
@@ -303,6 +303,113 @@ static int well_formed(const taplevung_state *s, const uint8_t *snapshots, size_
         if (check(DELTA, deltas, s->deltas[i]).number != 0)
             return 0;
     return 1;
+}
+
+/*------------ The messages of another cache --------------------------------*/
+
+static size_t number_at(const uint8_t *p, size_t bytes)
+{
+    size_t x = 0;
+    for (size_t i = 0; i < bytes; i++)
+        x = x << 8 | p[i];
+    return x;
+}
+
+/* The field of the record that a message of n bytes speaks of, and what it does to it; its length, or 0 if it may not be. */
+static size_t record_of(uint8_t *to, const uint8_t *p, size_t n, int *announces)
+{
+    size_t body = 23;
+    unsigned flags = p[2];
+    if ((p[1] == 4 && n == 20) || (p[1] == 6 && n == 32)) {
+        flags = p[8];
+        memset(to, 0, 26);
+        to[3] = p[1];
+        memcpy(to + 4, p + 12, n - 16);
+        to[20] = p[9];
+        to[21] = p[10];
+        memcpy(to + 22, p + n - 4, 4);
+    } else if (p[1] == 9 && n >= 32 && n <= 32 + 1024) {
+        body = n - 8;
+        memcpy(to + 3, p + 8, body);
+    } else {
+        return 0;
+    }
+    to[0] = p[1] == 9 ? 2 : 1;
+    to[1] = (uint8_t)(body >> 8);
+    to[2] = (uint8_t)body;
+    *announces = flags == 1;
+    return flags <= 1 && good_body(SNAPSHOT, to[0], to + 3, body) ? 3 + body : 0;
+}
+
+/* Takes a record into the snapshot of n bytes at `to`, or out of it; its length then, or -1 if it is there, or not there,
+ * already. */
+static ptrdiff_t take_record(uint8_t *to, size_t n, const uint8_t *record, size_t length, int announces)
+{
+    struct field wanted = field_at(SNAPSHOT, record);
+    size_t at = 0;
+    int order = 1;
+    for (; at < n; at += field_at(SNAPSHOT, to + at).length) {
+        struct field f = field_at(SNAPSHOT, to + at);
+        if ((order = compare_keys(&f, &wanted)) >= 0)
+            break;
+    }
+    if ((at < n && order == 0) == announces)
+        return -1;
+    if (!announces) {
+        memmove(to + at, to + at + length, n - at - length);
+        return (ptrdiff_t)(n - length);
+    }
+    memmove(to + at + length, to + at, n - at);
+    memcpy(to + at, record, length);
+    return (ptrdiff_t)(n + length);
+}
+
+/* What the n bytes of messages at p make of the good snapshot of `length` bytes at `to`: 13, 14 or 15 and where, or all
+ * that is said of a call that is accepted. */
+static taplevung_judged judge_into(uint8_t *to, size_t length, const uint8_t *p, size_t n)
+{
+    static uint8_t record[2048];
+    taplevung_judged said = {{0, 13, 2, {0}, 0, 0, 0, 0}, {0}, {0, 0, 0}}, done = {{1, 0, 0, {0}, 0, 0, 0, 0}, {0}, {0, 0, 0}};
+    for (size_t at = 0, size; at < n; at += size) {
+        said.answer.offset = at;
+        if (n - at < 8 || p[at] != 1)
+            return said;
+        size = number_at(p + at + 4, 4);
+        const uint8_t *m = p + at;
+        uint16_t session = (uint16_t)number_at(m + 2, 2);
+        if (size < 8 || size > n - at || (at == 0) != (m[1] == 3) || (at == 0 && size != 8))
+            return said;
+        if (at == 0) {
+            done.session.value = session;
+            continue;
+        }
+        if (m[1] == 7) {
+            if (size != 24 || session != done.session.value)
+                return said;
+            said.answer.offset = at + size;
+            if (at + size != n)
+                return said;
+            done.answer.serial.value = (uint32_t)number_at(m + 8, 4);
+            done.answer.length = length;
+            done.timing.refresh = (uint32_t)number_at(m + 12, 4);
+            done.timing.retry = (uint32_t)number_at(m + 16, 4);
+            done.timing.expire = (uint32_t)number_at(m + 20, 4);
+            return done;
+        }
+        int announces = 0;
+        size_t own = record_of(record, m, size, &announces);
+        if (own == 0)
+            return said;
+        ptrdiff_t now = take_record(to, length, record, own, announces);
+        if (now < 0) {
+            said.answer.number = announces ? 15 : 14;
+            return said;
+        }
+        length = (size_t)now;
+        *(announces ? &done.answer.announced : &done.answer.withdrawn) += 1;
+    }
+    said.answer.offset = n;
+    return said;
 }
 
 /*------------ Times --------------------------------------------------------*/

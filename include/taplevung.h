@@ -42,7 +42,7 @@ extern "C" {
 /* What `kind` of an answer says. Where two names have one number, the call tells them apart. */
 enum {
     TAPLEVUNG_REFUSED = 0,   /* any call: see number, argument and offset */
-    TAPLEVUNG_DONE = 1,      /* merge, apply, create, query, query_all, full */
+    TAPLEVUNG_DONE = 1,      /* merge, apply, create, query, query_all, full, judge */
     TAPLEVUNG_DELTA = 1,     /* construct: a delta was written */
     TAPLEVUNG_NO_CHANGE = 2, /* construct: the snapshots are equal, nothing was written */
     TAPLEVUNG_FIRST = 1,     /* update: the history's first snapshot, the serial stays */
@@ -66,7 +66,10 @@ enum {
     TAPLEVUNG_STORE_FULL = 9,    /* the snapshot, or the deltas to be held, exceed their store */
     TAPLEVUNG_TOO_LONG = 10,     /* an input, or a store at creation, is over its limit */
     TAPLEVUNG_BAD_LIST = 11,     /* more than 384 queries, or a list that is cut inside one */
-    TAPLEVUNG_SENSELESS = 12     /* an ASPA has no providers, or names its customer among them */
+    TAPLEVUNG_SENSELESS = 12,    /* an ASPA has no providers, or names its customer among them */
+    TAPLEVUNG_FAULTY = 13,       /* a message that RFC 8210 does not allow there, or none where one is due */
+    TAPLEVUNG_ABSENT = 14,       /* a message withdraws a record that is absent */
+    TAPLEVUNG_PRESENT = 15       /* a message announces a record that is present */
 };
 
 /* The serial of a snapshot. After 4,294,967,295 comes 0. */
@@ -99,9 +102,9 @@ typedef struct {
 typedef struct {
     uint32_t kind;           /* refused, or what was done */
     uint32_t number;         /* a refusal's number; 6 with a Cache Reset, 5 with an Error Report; else 0 */
-    uint32_t argument;       /* which argument is at fault, 1 or 2, for nos. 1, 2, 3, 10, 12; else 0 */
+    uint32_t argument;       /* which argument is at fault, 1 or 2, for nos. 1, 2, 3, 10, 12 to 15; else 0 */
     taplevung_serial serial;
-    uint64_t offset;         /* where in that argument the field starts, for nos. 1, 2, 3, 12; else 0 */
+    uint64_t offset;         /* where in it the field or message starts, for nos. 1, 2, 3, 12 to 15; else 0 */
     uint64_t length;
     uint64_t announced;      /* items of a delta that announce or update */
     uint64_t withdrawn;      /* items of a delta that withdraw */
@@ -152,6 +155,13 @@ typedef struct {
     uint64_t router_keys_skipped; /* items that there is no message for */
     uint64_t aspas_skipped;
 } taplevung_sent;
+
+/* The answer of judge, and the session and the intervals of the End of Data. */
+typedef struct {
+    taplevung_answer answer;
+    taplevung_session session;
+    taplevung_timing_values timing;
+} taplevung_judged;
 
 /*
  * Writes the difference between two snapshots to the output.
@@ -322,6 +332,27 @@ taplevung_sent taplevung_notify_message(taplevung_state state, uint8_t *out, siz
  * larger of them plus 1. Never refuses.
  */
 taplevung_timing_values taplevung_timing(uint32_t refresh, uint32_t retry, uint32_t expire);
+
+/*
+ * Judges the answer of another cache: the messages of RFC 8210 (version 1) from a Cache
+ * Response to an End of Data, taken one after another by one who holds the snapshot. They
+ * may come in any order, and a record may be announced and withdrawn again. Writes the
+ * snapshot that they leave; the ASPAs of the one given stay as they are.
+ *
+ * TAPLEVUNG_DONE: serial, `session` and `timing` are those of the End of Data, the three
+ * intervals as they stand; length is that of the snapshot written; announced and withdrawn
+ * are the messages with flags 1 and 0. Refused: `session` and `timing` are 0.
+ * Refusals: 10, then 1, 12 and 2 (argument 1, the snapshot), then the first faulty message
+ * (argument 2), by 13 before 14 and 15, then 4. No. 13 is a message cut short; a version
+ * other than 1; a type that may not stand there, or that has another length; flags other
+ * than 0 and 1; a record that would be a bad body in a snapshot; an End of Data of another
+ * session than the Cache Response's; no End of Data (the offset is then the end); bytes
+ * behind it (the first of them). Fields that the RFC calls zero are not looked at.
+ */
+taplevung_judged taplevung_judge(
+    const uint8_t *snapshot, size_t snapshot_length,
+    const uint8_t *messages, size_t messages_length,
+    uint8_t *out, size_t out_length);
 
 #ifdef __cplusplus
 }

@@ -20,7 +20,7 @@ enum { PROT_NONE_ = 0, PROT_READ_WRITE_ = 3, MAP_PRIVATE_ANONYMOUS_ = 0x22 };
 
 enum entry {
     CONSTRUCT, MERGE, APPLY, CREATE, UPDATE, QUERY, QUERY_ALL, FULL, NOTIFY, READY, TIMING,
-    QUERY_MESSAGES, FULL_MESSAGES, NOTIFY_MESSAGE
+    QUERY_MESSAGES, FULL_MESSAGES, NOTIFY_MESSAGE, JUDGE
 };
 
 struct request {
@@ -176,6 +176,15 @@ static void call(const struct request *q, uint8_t *const s[3], struct reply *r)
         r->numbers[1] = sent.router_keys_skipped;
         r->numbers[2] = sent.aspas_skipped;
         break;
+    case JUDGE: {
+        taplevung_judged j = taplevung_judge(s[0], n[0], s[1], n[1], s[2], n[2]);
+        r->answer = j.answer;
+        r->state.session = j.session.value;
+        r->numbers[0] = j.timing.refresh;
+        r->numbers[1] = j.timing.retry;
+        r->numbers[2] = j.timing.expire;
+        break;
+    }
     }
 }
 

@@ -5,12 +5,15 @@
 //!   themselves say more of a machine than of the library, so there are none. `bench/run` starts this.
 //! - `bench messages FOLDER [ROUNDS]` measures the router messages alone, and writes FOLDER/messages.md.
 //! - `bench appliance ITEMS RUNS` prints a table of 384 queries in one call.
+//! - `bench judge FOLDER [ROUNDS [MOST]]` times the judge of other caches' messages, up to MOST of them, and writes
+//!   FOLDER/judge.md. `bench/run` starts this too.
 //! - `bench names` prints what can be counted, and `bench count ENTRY KIND WHO TIMES` runs one of those so many
 //!   times and prints how many fields its inputs have. `bench/count` starts these.
 mod appliance;
 mod data;
 mod entries;
 mod goals;
+mod judge;
 mod messages;
 mod plain;
 mod plot;
@@ -38,12 +41,17 @@ fn main() {
             let number = |word: &str| word.parse().expect("a number");
             print!("{}", appliance::run(number(items), number(runs)));
         }
+        ["judge", folder] => judge(Path::new(folder), 3, usize::MAX),
+        ["judge", folder, rounds] => judge(Path::new(folder), rounds.parse().expect("a number"), usize::MAX),
+        ["judge", folder, rounds, most] => {
+            judge(Path::new(folder), rounds.parse().expect("a number"), most.parse().expect("a number"))
+        }
         ["names"] => names(),
         ["count", entry, kind, who, times] => {
             count(entry, kind, who, times.parse().expect("a number of times"))
         }
         _ => {
-            eprintln!("usage: bench race FOLDER [ROUNDS] | messages FOLDER [ROUNDS] | appliance ITEMS RUNS | names | count ENTRY KIND WHO TIMES");
+            eprintln!("usage: bench race FOLDER [ROUNDS] | messages FOLDER [ROUNDS] | appliance ITEMS RUNS | judge FOLDER [ROUNDS [MOST]] | names | count ENTRY KIND WHO TIMES");
             std::process::exit(2);
         }
     }
@@ -78,6 +86,12 @@ fn messages(folder: &Path, rounds: u32) {
     let tables = messages::tables(rounds);
     print!("{tables}");
     std::fs::write(folder.join("messages.md"), tables).expect("the folder can be written");
+}
+
+fn judge(folder: &Path, rounds: u32, most: usize) {
+    let text = judge::judge(rounds, most);
+    print!("{text}");
+    std::fs::write(folder.join("judge.md"), text).expect("the folder can be written");
 }
 
 /// Who is counted.

@@ -28,7 +28,7 @@ fn field(bytes: &[u8]) -> Option<(u8, &[u8])> {
     Some((*tag, rest.get(..usize::from(u16::from_be_bytes([*high, *low])))?))
 }
 
-fn good_origin(body: &[u8]) -> bool {
+pub fn good_origin(body: &[u8]) -> bool {
     let Ok(body) = <&[u8; 23]>::try_from(body) else { return false };
     let bound = match body[0] {
         4 => 32,

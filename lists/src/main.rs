@@ -145,6 +145,12 @@ fn make(call: &Call, [a, b, c]: [&mut [u8]; 3], left: &mut Outcome) {
         }
         Entry::FullMessages => sent(raw::full_messages(state, times(call, 0), a, b, c), left),
         Entry::NotifyMessage => sent(raw::notify_message(state, c), left),
+        Entry::Judge => {
+            let raw::Judged { answer: said, session, timing: times } = raw::judge(a, b, c);
+            left.answer = answer(said);
+            left.state.session = session.0.into();
+            left.numbers = [times.refresh, times.retry, times.expire].map(u64::from);
+        }
     }
 }
 

@@ -19,6 +19,7 @@ pub enum Entry {
     QueryMessages,
     FullMessages,
     NotifyMessage,
+    Judge,
 }
 
 /// `taplevung_state`.
@@ -84,8 +85,9 @@ pub struct Call {
 #[derive(Clone, Eq, PartialEq)]
 pub struct Outcome {
     pub answer: Answer,
+    /// The state from then on; of judge the session alone.
     pub state: State,
-    /// The session, and of messages the router keys and the ASPAs skipped; or whether ready; or the three times.
+    /// The session, and of messages the router keys and the ASPAs skipped; or whether ready; or the three times, of judge too.
     pub numbers: [u64; 3],
     pub bytes: [Vec<u8>; 3],
     /// Of `QueryAll`, one for each query.
@@ -158,6 +160,9 @@ impl Call {
     pub fn notify_message(state: State, out: Vec<u8>) -> Self {
         Self::new(Entry::NotifyMessage, state, [], [vec![], vec![], out])
     }
+    pub fn judge(snapshot: Vec<u8>, messages: Vec<u8>, out: Vec<u8>) -> Self {
+        Self::new(Entry::Judge, State::ZERO, [], [snapshot, messages, out])
+    }
 
     /// Which slices are the snapshot store and the delta store.
     pub fn stores(&self) -> Option<(usize, usize)> {
@@ -174,15 +179,16 @@ impl Call {
         match self.entry {
             Entry::Construct | Entry::Merge | Entry::Apply | Entry::Query | Entry::QueryAll => Some(2),
             Entry::QueryMessages | Entry::FullMessages | Entry::NotifyMessage => Some(2),
+            Entry::Judge => Some(2),
             _ => None,
         }
     }
 
-    /// Which slices are inputs, one behind the other from the first.
+    /// Which slices are inputs of fields, one behind the other from the first.
     pub fn inputs(&self) -> usize {
         match self.entry {
             Entry::Construct | Entry::Merge | Entry::Apply => 2,
-            Entry::Update => 1,
+            Entry::Update | Entry::Judge => 1,
             _ => 0,
         }
     }
@@ -221,7 +227,7 @@ impl Outcome {
     /// In words, after this call.
     pub fn tell(&self, call: &Call) -> String {
         let mut out = format!("  {:?}, numbers {:?}\n", self.answer, self.numbers);
-        if matches!(call.entry, Entry::Create | Entry::Update) {
+        if matches!(call.entry, Entry::Create | Entry::Update | Entry::Judge) {
             out += &format!("  state: {:?}\n", self.state);
         }
         for (i, (after, before)) in self.bytes.iter().zip(&call.bytes).enumerate() {

@@ -3,12 +3,15 @@
 //! usage: oracle CASES SEED CALLER [ARGUMENT...]
 //!
 //! A case is one call: its answer, its state, and every lent byte afterwards. Cases come in rounds; what
-//! a round does follows from the seed and its number alone.
+//! a round does follows from the seed and its number alone. Then the judge is asked: the captured answers of
+//! real caches, good answers, and half as many damaged ones as there are cases.
 use std::collections::BTreeMap;
 use std::process::ExitCode;
 use std::time::{Duration, Instant};
 
+use oracle::answers::{self, each_place};
 use oracle::call::{Answer, Call, Entry, Outcome, State};
+use oracle::captures::{self, Captured};
 use oracle::damage::{damage, ill_form, DAMAGES};
 use oracle::field::put;
 use oracle::make::{output, room, serial, times, Universe, World};
@@ -20,6 +23,9 @@ use oracle::shrink::shrink;
 
 /// From this many cases on, what was met is asserted and not only counted.
 const GATE: u64 = 200_000;
+
+/// Rounds above this one ask the judge.
+const JUDGING: u64 = 1 << 32;
 
 fn main() -> ExitCode {
     let mut words = std::env::args().skip(1);
@@ -64,6 +70,8 @@ struct Run {
     refusals: BTreeMap<(Entry, u32, u32), u64>,
     /// Damage to inputs and histories that led to a refusal.
     damages: BTreeMap<&'static str, u64>,
+    /// Damaged answers of other caches that were judged.
+    damaged_answers: u64,
     /// Answers that were compared with the Rust's too.
     rust: u64,
     /// Times that the Rust served n = 1 at distance 2^31, a known difference (K6).
@@ -87,6 +95,7 @@ impl Run {
             pairs: BTreeMap::new(),
             refusals: BTreeMap::new(),
             damages: BTreeMap::new(),
+            damaged_answers: 0,
             rust: 0,
             known: 0,
             reached: 0,
@@ -122,6 +131,7 @@ impl Run {
                 eprintln!("{} of {cases} cases, {} s", self.calls(), start.elapsed().as_secs());
             }
         }
+        self.judging(cases / 2)?;
         if cases >= GATE {
             self.met_enough()?;
         }
@@ -131,10 +141,11 @@ impl Run {
     fn summary(&self) -> String {
         let kinds: Vec<String> = self.kinds.iter().map(|(k, n)| format!("{k} {n}")).collect();
         format!(
-            "all equal: {} calls ({}), {} of them with the Rust too, K6 met {} times, E2 {} times, E5 {} times, {} answers read by a router, seed {}",
+            "all equal: {} calls ({}), {} of them with the Rust too, {} damaged answers judged, K6 met {} times, E2 {} times, E5 {} times, {} answers read by a router, seed {}",
             self.calls(),
             kinds.join(", "),
             self.rust,
+            self.damaged_answers,
             self.known,
             self.reached,
             self.raised,
@@ -611,6 +622,7 @@ impl Run {
             self.compare(&Call::construct(first(snap), over(snap), 0, out.clone()))?;
             self.compare(&Call::merge(first(delta), over(delta), 0, out.clone()))?;
             self.compare(&Call::apply(first(snap), over(delta), out.clone()))?;
+            self.compare(&Call::judge(first(snap), bad.clone(), out.clone()))?;
             // stores: 10 at creation, behind 8; 7 afterwards
             self.compare(&Call::create(9, 0, 5, first(snap), over(delta)))?;
             self.compare(&Call::create(9, 1, 5, first(snap), over(delta)))?;
@@ -630,6 +642,13 @@ impl Run {
         let (old, new) = (longest(3, snap, 5000), longest(3, snap, 5001));
         let made = answered(self.compare(&Call::construct(old.clone(), new.clone(), 5, vec![0; delta]))?);
         self.compare(&Call::apply(old.clone(), made.clone(), vec![0; snap]))?;
+        // the judge's result may be longer than a snapshot
+        let universe = Universe::fixed();
+        let announce = |key| answers::payload(1, key);
+        let said: Vec<Vec<u8>> = universe.records().into_iter().map(announce).collect();
+        let answer = [answers::cache_response(9), said.concat(), answers::end_of_data(9, 5, [1; 3])].concat();
+        self.compare(&Call::judge(old.clone(), answer.clone(), vec![0; snap + 1000]))?;
+        self.compare(&Call::judge(old.clone(), answer, vec![0; snap]))?;
         let (withdraw, announce) = (longest(0x32, delta, 5000), longest(0x31, delta, 5001));
         self.compare(&Call::merge(withdraw, announce, 5, vec![0; 2 * delta]))?;
         let first = self.compare(&Call::update(inactive, old, vec![0; snap], vec![0; made.len()]))?;
@@ -645,6 +664,99 @@ impl Run {
         let full = Call::full(State { active: 1, snapshot: length, ..inactive }, origins, none);
         for room in [32 * count + 32, 32 * count + 31] {
             self.compare(&Call::full_messages(full.clone(), [0, 0, 0], vec![0; room]))?;
+        }
+        Ok(())
+    }
+
+    //------------ Answers of other caches -----------------------------------
+
+    /// The captured answers, then rounds until so many damaged answers have been judged.
+    fn judging(&mut self, damaged: u64) -> Checked {
+        self.kind = "judge";
+        self.round = JUDGING;
+        let captured = captures::all();
+        captured.iter().try_for_each(|captured| self.captured(captured))?;
+        self.many()?;
+        while self.damaged_answers < damaged {
+            self.round += 1;
+            let mut rng = Rng::new(self.seed, self.round);
+            self.judged(&mut rng, &captured)?;
+        }
+        Ok(())
+    }
+
+    /// What was recorded of an answer, in just enough room and one byte short; and each damage of one place.
+    fn captured(&mut self, captured: &Captured) -> Checked {
+        let Captured { name, base, answer, verdict } = captured;
+        let needed = verdict.as_ref().map_or(0, Vec::len);
+        let call = |answer: &[u8], room| Call::judge(base.clone(), answer.to_vec(), vec![0xEE; room]);
+        let outcome = self.compare(&call(answer, needed))?;
+        let said = match outcome.answer {
+            Answer { kind: 1, length, .. } => Ok(outcome.bytes[2][..length as usize].to_vec()),
+            Answer { number, offset, .. } => Err((number, offset as usize)),
+        };
+        if said != *verdict {
+            return Err(format!("DIFFERENCE (judge): {name} is judged otherwise than recorded"));
+        }
+        self.compare(&call(answer, needed.saturating_sub(1)))?;
+        if answer.len() < 150 {
+            each_place(answer).try_for_each(|bad| self.damaged_answer(call(&bad, needed + 40)))?;
+        }
+        Ok(())
+    }
+
+    /// More messages than the judge takes at a time, half of the answers in no order; then one, two and three of the messages
+    /// with other flags, whichever comes first.
+    fn many(&mut self) -> Checked {
+        let mut rng = Rng::new(self.seed, JUDGING);
+        for round in 0..36 {
+            let count = [5999, 6000, 6001].get(round / 6).copied().unwrap_or(6000 + rng.below(9000));
+            let (held, mut messages) = answers::many(&mut rng, count, round % 6);
+            let held = bytes(&held);
+            self.compare(&room(&mut rng, Call::judge(held.clone(), messages.concat(), vec![])))?;
+            for flip in [1, 1, 3] {
+                messages[1 + rng.below(count)][8] ^= flip;
+                self.damaged_answer(Call::judge(held.clone(), messages.concat(), vec![0xEE; 30 * count]))?;
+            }
+        }
+        Ok(())
+    }
+
+    fn damaged_answer(&mut self, call: Call) -> Checked {
+        self.damaged_answers += 1;
+        self.compare(&call).map(drop)
+    }
+
+    /// A good answer or a captured one: as it is, in every room from none to more than enough at times, and damaged.
+    fn judged(&mut self, rng: &mut Rng, captured: &[Captured]) -> Checked {
+        let (held, messages) = if rng.one_in(4) {
+            let Captured { base, answer, .. } = rng.pick(captured);
+            (base.clone(), answers::pieces(answer))
+        } else {
+            let universe = Universe::new(rng);
+            let held = universe.snapshot(rng);
+            (bytes(&held), answers::good(rng, &universe, &held))
+        };
+        let answer = messages.concat();
+        let outcome = self.compare(&room(rng, Call::judge(held.clone(), answer.clone(), vec![])))?;
+        let long = held.len() + 2 * answer.len();
+        if rng.one_in(200) && long < 1000 {
+            for length in 0..=outcome.answer.length as usize + 2 {
+                self.compare(&Call::judge(held.clone(), answer.clone(), vec![0xEE; length]))?;
+            }
+            each_place(&answer)
+                .try_for_each(|bad| self.damaged_answer(Call::judge(held.clone(), bad, vec![0xEE; long])))?;
+        }
+        for _ in 0..20 {
+            let (name, bad) = answers::damage(rng, &messages);
+            let spoilt = rng.one_in(40);
+            let held = if spoilt { damage(rng, Form::Snapshot, &held).1 } else { held.clone() };
+            let room = if rng.one_in(8) { rng.below(60) } else { long };
+            let outcome = self.compare(&Call::judge(held, bad, vec![0xEE; room]))?;
+            self.damaged_answers += 1;
+            if matches!(outcome.answer.number, 13..=15) {
+                *self.damages.entry(name).or_default() += 1;
+            }
         }
         Ok(())
     }
@@ -691,6 +803,13 @@ impl Run {
             (FullMessages, 4, 0, 500),
             (FullMessages, 7, 0, 500),
             (NotifyMessage, 4, 0, 500),
+            (Judge, 1, 1, 100),
+            (Judge, 2, 1, 100),
+            (Judge, 12, 1, 50),
+            (Judge, 13, 2, 10_000),
+            (Judge, 14, 2, 1000),
+            (Judge, 15, 2, 1000),
+            (Judge, 4, 0, 500),
             // from the fixed list alone
             (Construct, 10, 1, 1),
             (Construct, 10, 2, 1),
@@ -701,6 +820,7 @@ impl Run {
             (Create, 10, 1, 1),
             (Create, 10, 2, 1),
             (Update, 10, 1, 1),
+            (Judge, 10, 1, 1),
         ] {
             let met = self.refusals.get(&(entry, number, argument));
             enough(format!("refusal {number}, argument {argument} of {entry:?}"), met, least)?;
@@ -719,7 +839,8 @@ impl Run {
             "a bad snapshot",
             "a bad delta",
         ];
-        for name in DAMAGES.iter().map(|(name, _)| name).chain(ILL) {
+        let names = DAMAGES.iter().map(|(name, _)| name).chain(answers::DAMAGES.iter().map(|(name, _)| name));
+        for name in names.chain(ILL) {
             enough(format!("\"{name}\""), self.damages.get(name), 100)?;
         }
         enough("a router that reads messages".into(), Some(&self.read), 5000)?;

@@ -43,6 +43,11 @@ impl Universe {
         Universe { keys, providers: vec![0, 1, 64497, 64498, u32::MAX] }
     }
 
+    /// The origins and router keys.
+    pub fn records(&self) -> Vec<&Key> {
+        self.keys.iter().filter(|key| key[0] < 3).collect()
+    }
+
     /// Some of the fixed keys.
     pub fn few(rng: &mut Rng, count: usize) -> Self {
         let mut universe = Self::fixed();

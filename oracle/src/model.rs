@@ -7,6 +7,7 @@ use std::collections::BTreeMap;
 
 use crate::call::{Answer, Call, Entry, Outcome, Reply, State};
 use crate::field::{put, split_update};
+use crate::judge::{judge, Judged};
 use crate::message;
 
 pub const SNAPSHOT_LIMIT: usize = 16_777_216;
@@ -57,7 +58,7 @@ fn good_origin(body: &[u8]) -> bool {
     prefix <= bound && prefix <= max && max <= bound && address.checked_shl(prefix.into()).unwrap_or(0) == 0
 }
 
-fn good_body(form: Form, tag: u8, body: &[u8]) -> bool {
+pub fn good_body(form: Form, tag: u8, body: &[u8]) -> bool {
     match (form, tag) {
         (Form::Snapshot, 0x01) | (Form::Delta, 0x11 | 0x12) => good_origin(body),
         (Form::Snapshot, 0x02) | (Form::Delta, 0x21 | 0x22) => (24..=24 + 1024).contains(&body.len()),
@@ -441,6 +442,17 @@ fn accept(call: &Call, out: &mut Outcome) -> Result<(), Refused> {
             send(&message::serial_notify(state.session as u16, state.newest), 1, 0, out)?;
             out.answer.serial = state.newest;
             out.numbers[0] = state.session % 65_536;
+        }
+        Entry::Judge => {
+            limits([(first, SNAPSHOT_LIMIT), (b"", 0)])?;
+            let said = judge(snapshot(first, 1)?, second)?;
+            let made = snapshot_bytes(&said.made);
+            lend(&made, &mut out.bytes[2], 4)?;
+            let Judged { session, serial, times, announced, withdrawn, .. } = said;
+            let length = made.len() as u64;
+            out.answer = Answer { kind: 1, serial, length, announced, withdrawn, ..Answer::default() };
+            out.state.session = session.into();
+            out.numbers = times.map(u64::from);
         }
     }
     Ok(())

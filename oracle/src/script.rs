@@ -141,7 +141,7 @@ impl<F: FnMut(&Call) -> Outcome> Player<F> {
         let answer = match line.0[0] {
             "snapshot" => verdict((self.check)(Form::Snapshot, &line.bytes(1))),
             "delta" => verdict((self.check)(Form::Delta, &line.bytes(1))),
-            "construct" | "merge" | "apply" => self.entry(line),
+            "construct" | "merge" | "apply" | "judge" => self.entry(line),
             "timing" => self.timing(line),
             "create" => self.create(line),
             "hold" => self.hold(line),
@@ -171,13 +171,15 @@ impl<F: FnMut(&Call) -> Outcome> Player<F> {
         format!("{} {}{answer}{after}\n", line.0[0], line.0[1])
     }
 
-    /// construct NAME ROOM SERIAL OLD NEW, merge NAME ROOM SERIAL EARLIER LATER, apply NAME ROOM - SNAPSHOT DELTA
+    /// construct NAME ROOM SERIAL OLD NEW, merge NAME ROOM SERIAL EARLIER LATER, apply NAME ROOM - SNAPSHOT DELTA,
+    /// judge NAME ROOM - SNAPSHOT MESSAGES
     fn entry(&mut self, line: &Line<'_>) -> String {
         let (room, serial) = (line.number(1) as usize, line.u32(2));
         let (first, second, lent) = (line.bytes(3), line.bytes(4), vec![MARK; room]);
         let call = match line.0[0] {
             "construct" => Call::construct(first, second, serial, lent),
             "merge" => Call::merge(first, second, serial, lent),
+            "judge" => Call::judge(first, second, lent),
             _ => Call::apply(first, second, lent),
         };
         let left = (self.run)(&call);
@@ -187,15 +189,17 @@ impl<F: FnMut(&Call) -> Outcome> Player<F> {
             (_, 0) => refused(answer) + kept(&out),
             (Entry::Construct, 2) => format!(" no change{}", kept(&out)),
             (Entry::Apply, _) => format!(" snapshot{}", written(&out, answer.length as usize)),
+            (Entry::Judge, _) => {
+                let session = left.state.session;
+                format!(" session {session} serial {}{}{}", answer.serial, times(&left), served(answer, &out))
+            }
             _ => format!(" serial {}{}", answer.serial, served(answer, &out)),
         }
     }
 
     /// timing NAME REFRESH RETRY EXPIRE
     fn timing(&mut self, line: &Line<'_>) -> String {
-        let [refresh, retry, expire] =
-            (self.run)(&Call::timing(line.u32(1), line.u32(2), line.u32(3))).numbers;
-        format!(" refresh {refresh} retry {retry} expire {expire}")
+        times(&(self.run)(&Call::timing(line.u32(1), line.u32(2), line.u32(3))))
     }
 
     /// create NAME SESSION KEEP START SNAPSHOT-ROOM DELTA-ROOM
@@ -395,6 +399,11 @@ fn verdict(said: Result<(), Refused>) -> String {
 /// The 16-bit session and the serial that an answer names.
 fn named(left: &Outcome) -> String {
     format!(" session {} serial {}", left.numbers[0], left.answer.serial)
+}
+
+fn times(left: &Outcome) -> String {
+    let [refresh, retry, expire] = left.numbers;
+    format!(" refresh {refresh} retry {retry} expire {expire}")
 }
 
 fn active(active: bool) -> String {

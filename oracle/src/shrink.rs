@@ -1,25 +1,22 @@
 //! Finds a smaller call that still shows a difference.
+use std::time::{Duration, Instant};
+
+use crate::answers;
 use crate::call::{Call, Entry, State};
 use crate::field::pieces;
 use crate::model;
-
-/// Calls with more bytes are left as they are: each step is a copy.
-const LONG: usize = 1 << 20;
 
 fn size(call: &Call) -> usize {
     call.bytes.iter().map(Vec::len).sum()
 }
 
-/// Takes the first smaller call that still differs, again and again.
+/// Takes the first smaller call that still differs, again and again, for a minute at most.
 pub fn shrink(mut call: Call, mut differs: impl FnMut(&Call) -> bool) -> Call {
-    if size(&call) > LONG {
-        return call;
-    }
-    let mut tries = 20_000;
+    let (mut tries, start) = (20_000, Instant::now());
     'again: loop {
         for smaller in smaller(&call) {
             tries -= 1;
-            if tries == 0 {
+            if tries == 0 || start.elapsed() > Duration::from_secs(60) {
                 return call;
             }
             if differs(&smaller) {
@@ -76,6 +73,17 @@ fn smaller(call: &Call) -> Vec<Call> {
                 }
             }
         }
+    }
+    if call.entry == Entry::Judge {
+        // a half of the messages, or a part of at most a 64th
+        let messages = answers::pieces(&call.bytes[1]);
+        for some in [messages.len() / 2, messages.len() / 64 + 1] {
+            for at in (0..messages.len()).step_by(some.max(1)) {
+                let behind = (at + some).min(messages.len());
+                step(&|c| c.bytes[1] = [&messages[..at], &messages[behind..]].concat().concat());
+            }
+        }
+        step(&|c| c.bytes[1].truncate(c.bytes[1].len().saturating_sub(1)));
     }
     // outputs, and what stands behind the held bytes of stores
     if let Some(i) = call.out() {

@@ -19,7 +19,7 @@ fn by_model(folder: &str) -> String {
 
 #[test]
 fn examples_by_model() {
-    assert!(by_model("examples").lines().count() >= 610);
+    assert!(by_model("examples").lines().count() >= 780);
 }
 
 /// What tools/peers serves to real clients.

@@ -162,3 +162,51 @@ pub fn apply(snapshot: &[u8], delta: &[u8], out: &mut [u8]) -> Result<usize, Ref
 pub fn timing(asked: Timing) -> Timing {
     raw::timing(asked.refresh, asked.retry, asked.expire)
 }
+
+/// What the messages of another cache led to: the snapshot in the first `length` bytes of the output.
+#[derive(Clone, Copy, Debug, Eq, PartialEq)]
+pub struct Judged {
+    /// The session of the answer.
+    pub session: Session,
+    /// The serial of the End of Data.
+    pub serial: Serial,
+    /// The intervals of the End of Data, as they stand.
+    pub timing: Timing,
+    pub length: usize,
+    /// How many messages announce.
+    pub announced: u64,
+    /// How many messages withdraw.
+    pub withdrawn: u64,
+}
+
+/// Judges the answer of another cache, the messages of RFC 8210 from a Cache Response to an End of Data, for
+/// one who holds `snapshot`: taken one after another, in whatever order they come. Writes the snapshot that
+/// they leave, in which the ASPAs of the one given stay.
+///
+/// The first faulty message decides, and its offset is in the refusal: [`Refusal::Faulty`],
+/// [`Refusal::Absent`] or [`Refusal::Present`].
+///
+/// ```
+/// use taplevung::{judge, Refusal, Serial, Session};
+/// // 192.0.2.0/24, maximum length 24, AS 64496: as a field, and announced.
+/// let field = b"\x01\x00\x17\x04\xc0\x00\x02\x00\0\0\0\0\0\0\0\0\0\0\0\0\x18\x18\x00\x00\xfb\xf0";
+/// let message = b"\x01\x04\0\0\0\0\0\x14\x01\x18\x18\0\xc0\x00\x02\x00\x00\x00\xfb\xf0";
+/// // Cache Response; End of Data of serial 5 with the three intervals.
+/// let response = b"\x01\x03\0\x07\0\0\0\x08";
+/// let end = b"\x01\x07\0\x07\0\0\0\x18\0\0\0\x05\0\0\x0e\x10\0\0\x02\x58\0\0\x1c\x20";
+///
+/// let answer = [&response[..], message, end].concat();
+/// let mut out = [0; 100];
+/// let judged = judge(b"", &answer, &mut out)?;
+/// assert_eq!((judged.session, judged.serial, judged.announced), (Session(7), Serial(5), 1));
+/// assert_eq!(&out[..judged.length], field);
+/// // One who has the record already.
+/// assert_eq!(judge(field, &answer, &mut out), Err(Refusal::Present { argument: 2, offset: 8 }));
+/// # Ok::<(), Refusal>(())
+/// ```
+pub fn judge(snapshot: &[u8], messages: &[u8], out: &mut [u8]) -> Result<Judged, Refusal> {
+    let raw::Judged { answer, session, timing } = raw::judge(snapshot, messages, out);
+    Refusal::check(&answer)?;
+    let raw::Answer { serial, length, announced, withdrawn, .. } = answer;
+    Ok(Judged { session, serial, timing, length: length as usize, announced, withdrawn })
+}

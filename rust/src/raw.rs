@@ -102,6 +102,15 @@ pub struct Sent {
     pub aspas_skipped: u64,
 }
 
+/// The answer of [`judge`], and the session and the intervals of the End of Data.
+#[repr(C)]
+#[derive(Clone, Copy, Debug, Eq, PartialEq)]
+pub struct Judged {
+    pub answer: Answer,
+    pub session: Session,
+    pub timing: Timing,
+}
+
 mod c {
     use super::*;
 
@@ -205,6 +214,14 @@ mod c {
         ) -> Sent;
         pub fn taplevung_notify_message(state: State, out: *mut u8, out_length: usize) -> Sent;
         pub fn taplevung_timing(refresh: u32, retry: u32, expire: u32) -> Timing;
+        pub fn taplevung_judge(
+            snapshot: *const u8,
+            snapshot_length: usize,
+            messages: *const u8,
+            messages_length: usize,
+            out: *mut u8,
+            out_length: usize,
+        ) -> Judged;
     }
 }
 
@@ -402,4 +419,19 @@ pub fn notify_message(state: State, out: &mut [u8]) -> Sent {
 pub fn timing(refresh: u32, retry: u32, expire: u32) -> Timing {
     // SAFETY: plain numbers.
     unsafe { c::taplevung_timing(refresh, retry, expire) }
+}
+
+/// `taplevung_judge`: the snapshot that the messages of another cache make of a snapshot.
+pub fn judge(snapshot: &[u8], messages: &[u8], out: &mut [u8]) -> Judged {
+    // SAFETY: as in `construct`.
+    unsafe {
+        c::taplevung_judge(
+            snapshot.as_ptr(),
+            snapshot.len(),
+            messages.as_ptr(),
+            messages.len(),
+            out.as_mut_ptr(),
+            out.len(),
+        )
+    }
 }

@@ -5,7 +5,7 @@ use crate::raw;
 /// Why a call was refused. A refused call has changed nothing.
 ///
 /// `argument` counts the call's inputs (or stores) from 1, and `offset` is where in that input the
-/// field starts.
+/// field or message starts.
 #[derive(Clone, Copy, Debug, Eq, Hash, PartialEq)]
 #[non_exhaustive]
 pub enum Refusal {
@@ -33,6 +33,12 @@ pub enum Refusal {
     BadList,
     /// 12: an ASPA has no providers, or names its customer among them.
     Senseless { argument: u32, offset: u64 },
+    /// 13: a message that RFC 8210 does not allow there, or none where one is due.
+    Faulty { argument: u32, offset: u64 },
+    /// 14: a message withdraws a record that is absent.
+    Absent { argument: u32, offset: u64 },
+    /// 15: a message announces a record that is present.
+    Present { argument: u32, offset: u64 },
 }
 
 impl Refusal {
@@ -59,11 +65,14 @@ impl Refusal {
             10 => Refusal::TooLong { argument },
             11 => Refusal::BadList,
             12 => Refusal::Senseless { argument, offset },
+            13 => Refusal::Faulty { argument, offset },
+            14 => Refusal::Absent { argument, offset },
+            15 => Refusal::Present { argument, offset },
             number => unreachable!("refusal {number}"),
         }
     }
 
-    /// The refusal's number, 1 to 12.
+    /// The refusal's number, 1 to 15.
     pub fn number(self) -> u32 {
         match self {
             Refusal::BadField { .. } => 1,
@@ -78,6 +87,9 @@ impl Refusal {
             Refusal::TooLong { .. } => 10,
             Refusal::BadList => 11,
             Refusal::Senseless { .. } => 12,
+            Refusal::Faulty { .. } => 13,
+            Refusal::Absent { .. } => 14,
+            Refusal::Present { .. } => 15,
         }
     }
 
@@ -88,18 +100,24 @@ impl Refusal {
             | Refusal::OutOfOrder { argument, .. }
             | Refusal::DoesNotFit { argument, .. }
             | Refusal::TooLong { argument }
-            | Refusal::Senseless { argument, .. } => Some(argument),
+            | Refusal::Senseless { argument, .. }
+            | Refusal::Faulty { argument, .. }
+            | Refusal::Absent { argument, .. }
+            | Refusal::Present { argument, .. } => Some(argument),
             _ => None,
         }
     }
 
-    /// Where in that argument the field starts, where the refusal names one.
+    /// Where in that argument the field or message starts, where the refusal names one.
     pub fn offset(self) -> Option<u64> {
         match self {
             Refusal::BadField { offset, .. }
             | Refusal::OutOfOrder { offset, .. }
             | Refusal::DoesNotFit { offset, .. }
-            | Refusal::Senseless { offset, .. } => Some(offset),
+            | Refusal::Senseless { offset, .. }
+            | Refusal::Faulty { offset, .. }
+            | Refusal::Absent { offset, .. }
+            | Refusal::Present { offset, .. } => Some(offset),
             _ => None,
         }
     }
@@ -130,6 +148,15 @@ impl fmt::Display for Refusal {
                 f,
                 "argument {argument}: the ASPA at {offset} has no providers, or names its customer among them"
             ),
+            Refusal::Faulty { argument, offset } => {
+                write!(f, "argument {argument}: no good message stands at {offset}")
+            }
+            Refusal::Absent { argument, offset } => {
+                write!(f, "argument {argument}: the message at {offset} withdraws a record that is absent")
+            }
+            Refusal::Present { argument, offset } => {
+                write!(f, "argument {argument}: the message at {offset} announces a record that is present")
+            }
         }
     }
 }

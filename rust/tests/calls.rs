@@ -1,8 +1,8 @@
 //! Each wrapper once or twice: what comes back in Rust's words. What the answers ought to be for all
 //! kinds of input is the oracle's business.
 use taplevung::{
-    apply, construct, merge, raw, timing, Constructed, Delta, History, Refusal, Reply, Serial, Session,
-    Timing, Updated, DELTA_LIMIT, QUERY_LIMIT, SNAPSHOT_LIMIT,
+    apply, construct, judge, merge, raw, timing, Constructed, Delta, History, Judged, Refusal, Reply, Serial,
+    Session, Timing, Updated, DELTA_LIMIT, QUERY_LIMIT, SNAPSHOT_LIMIT,
 };
 
 /// A field of an ASPA: tag, customer, providers.
@@ -75,6 +75,70 @@ fn refusals() {
     }
 }
 
+/// The field of 192.0.2.0/24 of an AS, and the message that announces (flags 1) or withdraws it (0).
+fn origin(asn: u8) -> Vec<u8> {
+    [&[1, 0, 23, 4, 192, 0, 2][..], &[0; 13], &[24, 24, 0, 0, 0, asn]].concat()
+}
+fn prefix(flags: u8, asn: u8) -> Vec<u8> {
+    vec![1, 4, 0, 0, 0, 0, 0, 20, flags, 24, 24, 0, 192, 0, 2, 0, 0, 0, 0, asn]
+}
+
+/// Cache Response, these messages, End of Data of session 3 and serial 9.
+fn answer(messages: &[Vec<u8>]) -> Vec<u8> {
+    let end = [&[1, 7, 0, 3, 0, 0, 0, 24, 0, 0, 0, 9][..], &[0, 0, 0, 1, 0, 0, 0, 2, 0, 0, 0, 3]].concat();
+    [vec![1, 3, 0, 3, 0, 0, 0, 8], messages.concat(), end].concat()
+}
+
+#[test]
+fn judging() {
+    // AS 1 comes, AS 2 goes, comes and goes; the ASPA stays
+    let held = [origin(2), aspa(3, 1, &[2])].concat();
+    let messages = answer(&[prefix(0, 2), prefix(1, 1), prefix(1, 2), prefix(0, 2)]);
+    let left = [origin(1), aspa(3, 1, &[2])].concat();
+    let mut out = [7; 64];
+    let judged = Judged {
+        session: Session(3),
+        serial: Serial(9),
+        timing: Timing { refresh: 1, retry: 2, expire: 3 },
+        length: left.len(),
+        announced: 2,
+        withdrawn: 2,
+    };
+    assert_eq!(judge(&held, &messages, &mut out), Ok(judged));
+    assert_eq!(out[..left.len()], left);
+    assert!(out[left.len()..].iter().all(|&b| b == 7));
+    assert_eq!(judge(&held, &answer(&[]), &mut out).unwrap().length, held.len());
+}
+
+#[test]
+fn judging_refused() {
+    let held = origin(2);
+    let mut out = [7; 64];
+    let behind = [answer(&[]), vec![0]].concat();
+    let cut = &answer(&[prefix(1, 1)])[..28];
+    let long = vec![0; SNAPSHOT_LIMIT + 1];
+    for (snapshot, messages, refusal) in [
+        (&held, &answer(&[prefix(1, 1), prefix(0, 3)])[..], Refusal::Absent { argument: 2, offset: 28 }),
+        (
+            &held,
+            &answer(&[prefix(1, 1), prefix(1, 2), prefix(2, 2)]),
+            Refusal::Present { argument: 2, offset: 28 },
+        ),
+        (&held, &answer(&[prefix(2, 2)]), Refusal::Faulty { argument: 2, offset: 8 }),
+        (&held, &behind, Refusal::Faulty { argument: 2, offset: 32 }),
+        (&held, cut, Refusal::Faulty { argument: 2, offset: 28 }),
+        (&held, b"", Refusal::Faulty { argument: 2, offset: 0 }),
+        (&aspa(3, 1, &[1]), b"", Refusal::Senseless { argument: 1, offset: 0 }),
+        (&long, b"", Refusal::TooLong { argument: 1 }),
+    ] {
+        assert_eq!(judge(snapshot, messages, &mut out), Err(refusal));
+        assert!(out.iter().all(|&b| b == 7), "{refusal}");
+    }
+    assert_eq!(judge(&held, &answer(&[prefix(1, 1)]), &mut out[..51]), Err(Refusal::NoRoom));
+    let present = Refusal::Present { argument: 2, offset: 28 };
+    assert_eq!((present.number(), present.argument(), present.offset()), (15, Some(2), Some(28)));
+}
+
 #[test]
 fn refusal_in_words() {
     let refusal = Refusal::OutOfOrder { argument: 2, offset: 26 };
@@ -84,6 +148,8 @@ fn refusal_in_words() {
         refusal.to_string(),
         "argument 1: the ASPA at 0 has no providers, or names its customer among them"
     );
+    let refusal = Refusal::Absent { argument: 2, offset: 8 };
+    assert_eq!(refusal.to_string(), "argument 2: the message at 8 withdraws a record that is absent");
 }
 
 #[test]

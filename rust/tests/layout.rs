@@ -4,7 +4,7 @@ use std::mem::{offset_of, size_of};
 use std::path::Path;
 use std::process::Command;
 
-use taplevung::raw::{Answer, Made, Notice, Replies, Reply, Sent, State, Told};
+use taplevung::raw::{Answer, Judged, Made, Notice, Replies, Reply, Sent, State, Told};
 use taplevung::{Serial, Session, Timing};
 
 /// The C program's lines, and the lines that Rust's layout makes. The names of a struct's fields are
@@ -52,6 +52,7 @@ fn same_as_in_c() {
             answer = answer, session = session, router_keys_skipped = router_keys_skipped,
             aspas_skipped = aspas_skipped
         }
+        taplevung_judged Judged { answer = answer, session = session, timing = timing }
     };
     let program =
         format!("#include \"taplevung.h\"\n#include <stdio.h>\nint main(void) {{\n{body}return 0;\n}}\n");

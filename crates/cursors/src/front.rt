@@ -2,6 +2,8 @@
 // differ, the keys are ordered as they are.
 use crate::cursor::item_at;
 use field::key::Key;
+use field::number::word_at;
+use item::front::front_in;
 use item::reading::Read;
 ghost use mathlib.Core.Path.{_≡_};
 ghost use Prim.Native.Nat.{_≤_, _<_};
@@ -47,8 +49,8 @@ fn front_of(s: &[u8], k: Key) -> u64
     g * 256 + digit(s, from + 6, to)
 }
 
-// The front of the run from p up to e; at its end one above all others.
-pub(crate) fn front_at(store: &[u8], p: usize, e: usize) -> u64
+// The front of the run from p up to e, by the item at p; at its end one above all others.
+fn front_by_item(store: &[u8], p: usize, e: usize) -> u64
     requires { ⌜ Stands (now store) p e ⌝ }
     ensures { λ r. ⌜ Fronts (now (store .entry)) p e r ⌝ }
 {
@@ -57,4 +59,15 @@ pub(crate) fn front_at(store: &[u8], p: usize, e: usize) -> u64
     };
     let key = x.key;
     front_of(store, key)
+}
+
+// The front of the run from p up to e: of a tag and the eight bytes behind its head, where they are there.
+pub(crate) fn front_at(store: &[u8], p: usize, e: usize) -> u64
+    requires { ⌜ Stands (now store) p e ⌝ }
+    ensures { λ r. ⌜ Fronts (now (store .entry)) p e r ⌝ }
+{
+    if 11 <= e - p {
+        return front_in(store[p] / 16, word_at(store, p + 3)) as u64;
+    }
+    front_by_item(store, p, e)
 }

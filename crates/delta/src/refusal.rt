@@ -26,6 +26,12 @@ pub enum Refusal {
     BadList,
     // An ASPA has no providers, or names its customer among them.
     Senseless { argument: u8, at: usize },
+    // A message is broken or out of place, or the answer is not complete.
+    Faulty { at: usize },
+    // A message withdraws a record that is not there.
+    Absent { at: usize },
+    // A message announces a record that is there already.
+    Present { at: usize },
 }
 
 impl Refusal {
@@ -45,6 +51,9 @@ impl Refusal {
             Refusal::TooLong { argument: _ } => 10,
             Refusal::BadList => 11,
             Refusal::Senseless { argument: _, at: _ } => 12,
+            Refusal::Faulty { at: _ } => 13,
+            Refusal::Absent { at: _ } => 14,
+            Refusal::Present { at: _ } => 15,
         }
     }
 
@@ -64,6 +73,9 @@ impl Refusal {
             Refusal::TooLong { argument } => argument,
             Refusal::BadList => 0,
             Refusal::Senseless { argument, at: _ } => argument,
+            Refusal::Faulty { at: _ } => 2,
+            Refusal::Absent { at: _ } => 2,
+            Refusal::Present { at: _ } => 2,
         }
     }
 
@@ -83,6 +95,9 @@ impl Refusal {
             Refusal::TooLong { argument: _ } => 0,
             Refusal::BadList => 0,
             Refusal::Senseless { argument: _, at } => at,
+            Refusal::Faulty { at } => at,
+            Refusal::Absent { at } => at,
+            Refusal::Present { at } => at,
         }
     }
 }

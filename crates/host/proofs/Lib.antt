@@ -1,4 +1,5 @@
 pub mod Flattening
 pub mod Telling
+pub mod Judging
 pub mod Running
 pub mod Sending

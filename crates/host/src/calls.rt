@@ -3,6 +3,8 @@ use crate::answer::Answer;
 use crate::answer::applied_as;
 use crate::answer::constructed_as;
 use crate::answer::merged_as;
+use crate::judged::Judged;
+use crate::judged::judged_as;
 use crate::sent::Sent;
 use crate::sent::sent_as;
 use crate::state::State;
@@ -25,6 +27,7 @@ use history::notify::notify;
 use history::notify::ready;
 use history::query::query;
 use history::update::update_with;
+use judge::judge::judge;
 use message::version::Version;
 use past::notify::Notice;
 use serial::Serial;
@@ -38,6 +41,8 @@ ghost use mathlib.Core.Path.{_≡_};
 ghost use lib.ListN.{length};
 ghost use Rattle.serial.specs.Timing.{timingOf};
 ghost use Rattle.delta.specs.Answer.{constructOf, constructOut, mergeOf, mergeOut, applyOf, applyOut};
+ghost use Rattle.message.specs.declared.version.Version.the-variants.{Rfc8210};
+ghost use Rattle.judge.specs.Answer.{judgeOf, judgeOut};
 ghost use Rattle.past.specs.Create.{createOf};
 ghost use Rattle.past.specs.Query.{queryOf, queryOut};
 ghost use Rattle.past.specs.Update.{updateOf, updateSnapshots, updateDeltas};
@@ -49,6 +54,7 @@ ghost use Rattle.host.specs.State.{historyOf};
 ghost use Rattle.host.specs.Sent.{flatSent};
 ghost use Rattle.host.specs.Told.{madeCreated, madeUpdated, toldQueried, toldFull, flatReplied};
 ghost use Rattle.host.specs.Flat.{flatConstructed, flatMerged, flatApplied};
+ghost use Rattle.host.specs.Judged.{flatJudged};
 
 #[no_mangle]
 pub extern "C" fn taplevung_construct(
@@ -79,6 +85,13 @@ pub extern "C" fn taplevung_apply(snapshot: &[u8], delta: &[u8], out: &mut [u8])
     ensures { λ r. ⌜ (r ≡ flatApplied (applyOf (now (snapshot .entry)) (now (delta .entry)) (length (now (out .entry))))) × (now (out .exit) ≡ applyOut (now (snapshot .entry)) (now (delta .entry)) (now (out .entry))) ⌝ }
 {
     applied_as(apply(snapshot, delta, out))
+}
+
+#[no_mangle]
+pub extern "C" fn taplevung_judge(snapshot: &[u8], messages: &[u8], out: &mut [u8]) -> Judged
+    ensures { λ r. ⌜ (r ≡ flatJudged (judgeOf Rfc8210 (now (snapshot .entry)) (now (messages .entry)) (length (now (out .entry))))) × (now (out .exit) ≡ judgeOut Rfc8210 (now (snapshot .entry)) (now (messages .entry)) (now (out .entry))) ⌝ }
+{
+    judged_as(judge(Version::Rfc8210, snapshot, messages, out))
 }
 
 #[no_mangle]

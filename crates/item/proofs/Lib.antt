@@ -2,6 +2,7 @@ pub mod Places
 pub mod Readings
 pub mod Entries
 pub mod Fronts
+pub mod Heres
 pub mod Tabling
 pub mod Copying
 pub mod Sinking

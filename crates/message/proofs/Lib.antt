@@ -2,3 +2,4 @@ pub mod Versions
 pub mod Examples
 pub mod Taking
 pub mod Spoken
+pub mod Telling

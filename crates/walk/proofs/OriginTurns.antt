@@ -49,7 +49,7 @@ use Rattle.walk.specs.declared.origins.OriginStep.{OriginStep}
 use Rattle.walk.specs.declared.origins.OriginStep.the-variants.{Other, On}
 use Rattle.walk.specs.Walk.{leftOf, Stands, Wrote}
 use Rattle.walk.specs.Origins.{originOf, OriginAt, Countable, bothOrigins, BothAt, Turns, OriginStepMeans, OriginStepIs}
-use Rattle.walk.proofs.Seeking.{here, cell, next, reads, said, behind, within, lies}
+use Rattle.item.proofs.Heres.{here, cell, next, reads, said, behind, within, lies}
 use Rattle.walk.proofs.Walking.{plus-nil, writes-nil, then}
 
 -- ---- origin_at

@@ -42,7 +42,7 @@ fn size_at(s: &[u8], at: usize) -> usize
 }
 
 // Past the items from `start` on whose fronts are below a bound.
-pub(crate) fn seek(s: &[u8], start: usize, bound: usize) -> Sought
+pub fn seek(s: &[u8], start: usize, bound: usize) -> Sought
     requires { ⌜ Ready Announced (now s) start ⌝ }
     ensures { λ r. ⌜ Seeks (now (s .entry)) start bound (r .at) (r .count) ⌝ }
 {

@@ -24,7 +24,7 @@ use Rattle.item.specs.declared.reading.Reading.the-variants.{Announced}
 use Rattle.item.specs.Place.{itemIn}
 use Rattle.item.specs.Reading.{itemAs, readAs, Ready}
 use Rattle.item.proofs.Readings.{says-cons}
-use Rattle.walk.proofs.Seeking.{here, cell, next, reads, behind, within, lies}
+use Rattle.item.proofs.Heres.{here, cell, next, reads, behind, within, lies}
 use Rattle.message.specs.declared.version.Version.{Version}
 use Rattle.message.specs.Message.{pdu}
 use Rattle.pdu.specs.Write.{ipv4Of, ipv6Of, sizeOf, Lies23, Sayable, PutIs}

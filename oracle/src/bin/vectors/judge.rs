@@ -68,6 +68,8 @@ impl Judge {
             Entry::Timing => self.timing(call, &outcome),
             // the Rust leaves messages to another crate
             Entry::QueryMessages | Entry::FullMessages | Entry::NotifyMessage => {}
+            // the Rust judges no other cache
+            Entry::Judge => {}
         }
         outcome
     }
@@ -206,6 +208,7 @@ impl Judge {
         wanted.extend([4, 5, 6, 7].map(|n| (Query, n, 0)));
         wanted.extend([4, 5, 6, 7].map(|n| (QueryMessages, n, 0)));
         wanted.extend([(FullMessages, 4, 0), (FullMessages, 7, 0), (NotifyMessage, 4, 0)]);
+        wanted.extend([(1, 1), (13, 2), (14, 2), (15, 2), (4, 0)].map(|(n, a)| (Judge, n, a)));
         for refusal in wanted {
             assert!(self.refusals.contains(&refusal), "not met: {refusal:?}");
         }
@@ -215,7 +218,7 @@ impl Judge {
                 assert!(self.pairs.contains(&(kind, e, l)), "not met: the pair {:?}", (kind, e, l));
             }
         }
-        for entry in [Construct, Merge, Apply, Update, Query, QueryMessages, FullMessages, NotifyMessage] {
+        for entry in [Construct, Merge, Apply, Update, Query, QueryMessages, FullMessages, NotifyMessage, Judge] {
             assert!(self.exact.contains(&entry), "not met: exact room of {entry:?}");
         }
         for keep in crate::list::KEEPS.iter().copied() {

@@ -1,6 +1,7 @@
 //! The two lists: cases of the check, the three entries and the times, and runs of calls on histories.
 use std::fmt::Write;
 
+use oracle::answers;
 use oracle::call::{Call, Entry, State};
 use oracle::damage::{damage, damage_sense, ill_form};
 use oracle::make::{pairs, serial, times, Universe, World};
@@ -102,6 +103,11 @@ pub fn cases() -> String {
         let near = |k: usize| edges[(i * (k + 1) + k) % 7].wrapping_add(i as u32 % 3).wrapping_sub(1);
         list.line("timing", &[0, 1, 2].map(|k| near(k).to_string()));
     }
+    list.part("judge", "answers of other caches, most of them damaged, at times short of room");
+    for i in 0..300 {
+        let universe = Universe::few(&mut rng, 2 + i % 12);
+        list.judge(&mut rng, &universe, i);
+    }
     list.text
 }
 
@@ -110,6 +116,7 @@ impl List {
         let (name, serial) = match call.entry {
             Entry::Construct => ("construct", call.numbers[0].to_string()),
             Entry::Merge => ("merge", call.numbers[0].to_string()),
+            Entry::Judge => ("judge", "-".into()),
             _ => ("apply", "-".into()),
         };
         let [first, second, out] = &call.bytes;
@@ -152,6 +159,19 @@ impl List {
         call.bytes[which] = damage_sense(rng, forms[which], &call.bytes[which]);
         call.bytes[2] = room(rng, &call);
         self.entry(&call);
+    }
+
+    fn judge(&mut self, rng: &mut Rng, universe: &Universe, i: usize) {
+        let held = universe.snapshot(rng);
+        let messages = answers::good(rng, universe, &held);
+        let bytes = if i % 4 == 0 { messages.concat() } else { answers::damage(rng, &messages).1 };
+        let held = model::snapshot_bytes(&held);
+        let held = if i % 30 == 29 { damage(rng, Form::Snapshot, &held).1 } else { held };
+        if held.len() + bytes.len() < 1500 {
+            let mut call = Call::judge(held, bytes, vec![]);
+            call.bytes[2] = room(rng, &call);
+            self.entry(&call);
+        }
     }
 
     fn chain(&mut self, rng: &mut Rng, universe: &Universe) {

@@ -1,0 +1,1 @@
+// What a history writes, the judge accepts: theorems alone.

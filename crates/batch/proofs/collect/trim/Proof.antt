@@ -1,0 +1,19 @@
+use borrow.Author.Needs.{needs}
+use Rattle.batch.proofs.Collecting.{trimming}
+use Rattle.batch.proofs.collect.trim.Statement.{statement}
+use Rattle.batch.proofs.collect.trim.Tie as tie
+
+returns : tie.Need-returns
+returns c = search (trimming, needs)
+
+sort-requires : tie.Need-sort-requires
+sort-requires c κs = search (trimming, needs)
+
+element-copy-out-t11 : tie.Need-element-copy-out-t11
+element-copy-out-t11 c = search (trimming, needs)
+
+returns-2 : tie.Need-returns-2
+returns-2 c = search (trimming, needs)
+
+pub trim-spec : {M : Type 1} → statement M
+trim-spec = tie.close (tie.spec returns sort-requires element-copy-out-t11 returns-2)

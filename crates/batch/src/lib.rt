@@ -1,0 +1,6 @@
+// The payload messages of an answer in message order, a batch at a time.
+pub mod bound;
+pub mod collect;
+pub mod next;
+pub mod sort;
+pub mod survey;

@@ -1,0 +1,74 @@
+-- Laws of front_at.
+use Prim.Native.Nat.{ℕ, zero, suc, _+_, _-_, _*_, _/_, _%_, _<_, _≤_}
+use mathlib.Core.Path.{_≡_, refl, sym, ap, _∙_}
+use mathlib.Core.List.{List, [], _∷_, _++_}
+use mathlib.Core.Bool.{Bool, true, false}
+use native.Mathlib.Omega.{arith}
+use mir.Syntax.{w8, w64}
+use mir.Val.{Fits}
+use lib.ListN.{length, getD, take, drop, length-take, length-drop}
+use lib.Seq.{length-take-le}
+use Rattle.field.specs.declared.tag.Form.the-variants.{Snapshot}
+use Rattle.field.specs.Number.{four, fourAt, wordAt}
+use Rattle.field.specs.Places.{part}
+use Rattle.field.specs.Tag.{kindOf, tagOf, goodBody}
+use Rattle.field.specs.Key.{keyOf}
+use Rattle.field.proofs.Eights.{Octets}
+use Rattle.payload.specs.Content.{Bytes}
+use Rattle.item.specs.Front.{packs, frontKey, frontIn}
+use Rattle.item.proofs.Fronts.{front-here}
+use Rattle.message.specs.Record.{goodRecord}
+use Rattle.heard.specs.Place.{typeAt, sizeAt, keyAt, Payload}
+use Rattle.heard.proofs.Keys.{byteAt, word-from, four-from, fourKey, four-key, sixKey, six-key, router-key}
+use Rattle.heard.proofs.Places.{four-small, low-half, least, long, third, size-least}
+
+module _ (s : Bytes) (at : ℕ) (p : Payload s at) where
+  pub second-word : at + 8 + 8 ≤ length s
+  second-word = omega (arith, least s at p)
+
+  pub third-word : (k : ℕ) → k ≡ typeAt s at → k ≡ 6 → at + 12 + 8 ≤ length s
+  third-word k d e = omega (arith, least s at p)
+
+  module _ (o : Octets s) where
+    pub front-four : typeAt s at ≡ 4 → (w : ℕ) → w ≡ wordAt s (at + 8) → 0x0104000000000000 + w % 4_294_967_296 * 65_536 ≡ frontKey (keyAt s at)
+    unfolding packs
+    front-four t w e =
+        let z : at + 8 + 4 ≡ at + 12 = omega arith in
+        let f : w % 4_294_967_296 ≡ four (byteAt s at 12) (byteAt s at 13) (byteAt s at 14) (byteAt s at 15) = rw e (low-half s o (at + 8) ∙ rw z (four-from s at 12)) in
+        rw (f, four-key s at t (least s at p)) (omega arith)
+
+    pub front-six : typeAt s at ≡ 6 → (w : ℕ) → w ≡ wordAt s (at + 12) → 0x0106000000000000 + w / 65_536 ≡ frontKey (keyAt s at)
+    unfolding packs
+    front-six t w e =
+        let n : typeAt s at ≡ 4 → ⊥ = λ h. let z : _≡_ {A = ℕ} 4 6 = sym h ∙ t in omega arith in
+        rw (e, word-from s at 12, six-key s at t (long s at p n))
+        (plain (byteAt s at 12) (byteAt s at 13) (byteAt s at 14) (byteAt s at 15) (byteAt s at 16) (byteAt s at 17) (byteAt s at 18) (byteAt s at 19) (o (at + 18) .fits) (o (at + 19) .fits))
+      where
+        plain : (a b c d x y z u : ℕ) → z < 256 → u < 256
+            → 0x0106000000000000 + (four a b c d * 4_294_967_296 + four x y z u) / 65_536 ≡ (((((((0 * 256 + 1) * 256 + 6) * 256 + a) * 256 + b) * 256 + c) * 256 + d) * 256 + x) * 256 + y
+        plain a b c d x y z u h k =
+            let e : (four a b c d * 4_294_967_296 + four x y z u) / 65_536 ≡ four a b c d * 65_536 + (x * 256 + y) = omega arith in
+            rw e (omega arith)
+
+    pub front-key : typeAt s at ≡ 9 → (w : ℕ) → w ≡ wordAt s (at + 8) → 0x0200000000000000 + w / 256 ≡ frontKey (keyAt s at)
+    unfolding keyOf kindOf tagOf frontIn
+    front-key t w e =
+        let r = router-key s at t in
+        let b : Bytes = part s (at + 8) (at + sizeAt s at) in
+        let g : goodBody Snapshot 2 b ≡ true = rw r at (p .good) in
+        let l : length b ≡ at + sizeAt s at - (at + 8) = length-take-le (at + sizeAt s at - (at + 8)) (drop (at + 8) s) (simp length-drop (omega (arith, p .within))) in
+        let m : b ≡ take (length b) (drop (at + 8) s) = rw l in
+        rw (e, r) (sym (front-here Snapshot 2 b g s o (at + 8) second-word m))
+
+    -- by the type that was read
+    module _ (k : ℕ) (d : k ≡ typeAt s at) (w : ℕ) where
+      pub read-four : k ≡ 4 → w ≡ wordAt s (at + 8) → 0x0104000000000000 + w % 4_294_967_296 * 65_536 ≡ frontKey (keyAt s at)
+      read-four t e = front-four (sym d ∙ t) w e
+
+      pub read-six : k ≡ 6 → w ≡ wordAt s (at + 12) → 0x0106000000000000 + w / 65_536 ≡ frontKey (keyAt s at)
+      read-six t e = front-six (sym d ∙ t) w e
+
+      pub read-key : (k ≡ 4 → ⊥) → (k ≡ 6 → ⊥) → w ≡ wordAt s (at + 8) → 0x0200000000000000 + w / 256 ≡ frontKey (keyAt s at)
+      read-key t u e = front-key (third s at p (λ h. t (d ∙ h)) (λ h. u (d ∙ h))) w e
+
+pub ruleset fronts = (second-word, third-word, read-four, read-six, read-key)

@@ -1,0 +1,10 @@
+pub mod Keys
+pub mod Places
+pub mod Fronts
+pub mod Comparing
+pub mod Putting
+pub mod Summing
+pub mod Checking
+pub mod Reading
+pub mod Hearing
+pub mod Examples

@@ -1,0 +1,26 @@
+// The times of an End of Data.
+use field::number::word_at;
+use message::version::Version;
+use serial::timing::Timing;
+ghost use mathlib.Core.Path.{_≡_};
+ghost use lib.ListN.{drop};
+ghost use Rattle.message.specs.Version.{timesIn};
+ghost use Rattle.heard.specs.Step.{Timed};
+
+// The times that stand at `at`, as a version has them.
+pub(crate) fn times_at(version: Version, s: &[u8], at: usize) -> Timing
+    requires { ⌜ Timed version (now s) at ⌝ }
+    ensures { λ r. ⌜ r ≡ timesIn version (drop at (now (s .entry))) ⌝ }
+{
+    match version {
+        Version::Rfc8210 => {
+            let first = word_at(s, at);
+            let last = word_at(s, at + 4);
+            Timing {
+                refresh: (first / 4294967296) as u32,
+                retry: (first % 4294967296) as u32,
+                expire: (last % 4294967296) as u32,
+            }
+        }
+    }
+}

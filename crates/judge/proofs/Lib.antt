@@ -1,0 +1,17 @@
+pub mod Sorting
+pub mod Records
+pub mod Faults
+pub mod Settled
+pub mod Lengths
+pub mod Deciding
+pub mod Octets
+pub mod Results
+pub mod Examples
+pub mod Answers
+pub mod Finding
+pub mod Checking
+pub mod Leaving
+pub mod Faulting
+pub mod Writing
+pub mod Putting
+pub mod Judging
