@@ -335,7 +335,8 @@ static size_t put_messages(struct input *in, uint8_t *to, uint8_t version, const
     if ((mode & 7) == 6) {
         size_t at = (u32(in) & 0xffff) % length;
         to[at] ^= (uint8_t)u8(in);
-        length -= u8(in) & 31;
+        size_t cut = u8(in) & 31;
+        length -= cut < length ? cut : length;
     }
     return length;
 }
