@@ -47,7 +47,7 @@ fn put_asn(s: &[u8], from: usize, out: &mut [u8], i: usize)
 }
 
 // IPv4 Prefix.
-fn put_ipv4(version: Version, s: &[u8], from: usize, flags: u8, out: &mut [u8], i: usize)
+pub fn put_ipv4(version: Version, s: &[u8], from: usize, flags: u8, out: &mut [u8], i: usize)
     requires { ⌜ Lies23 (now s) from × (i + 20 ≤ length (now out)) ⌝ }
     ensures { λ r. ⌜ now (out .exit) ≡ sets (now (out .entry)) i (pdu version (ipv4Of flags (part (now (s .entry)) from (from + 23)))) ⌝ }
 {
@@ -67,7 +67,7 @@ fn put_address(s: &[u8], from: usize, out: &mut [u8], i: usize)
 }
 
 // IPv6 Prefix.
-fn put_ipv6(version: Version, s: &[u8], from: usize, flags: u8, out: &mut [u8], i: usize)
+pub fn put_ipv6(version: Version, s: &[u8], from: usize, flags: u8, out: &mut [u8], i: usize)
     requires { ⌜ Lies23 (now s) from × (i + 32 ≤ length (now out)) ⌝ }
     ensures { λ r. ⌜ now (out .exit) ≡ sets (now (out .entry)) i (pdu version (ipv6Of flags (part (now (s .entry)) from (from + 23)))) ⌝ }
 {

@@ -1,5 +1,5 @@
 -- Laws of the two loops: over the merge of many runs, and over the fields of a snapshot.
-use Prim.Native.Nat.{ℕ, _+_, _*_, _-_, _^_, _≤_, _<_}
+use Prim.Native.Nat.{ℕ, _+_, _*_, _-_, _≤_, _<_}
 use mathlib.Core.Path.{_≡_, refl, sym, ap, ap₂, _∙_}
 use mathlib.Core.List.{List, [], _∷_, _++_}
 use native.Mathlib.Omega.{arith}
@@ -54,7 +54,7 @@ module _ (v : Version) (t : Tally) (o : Bytes) (d : D) (t₀ : Tally) (o₀ : By
       }
 
   -- one behind the other
-  left-then : (t′ : Tally) (o′ : Bytes) (d′ : D) → Left v t′ o′ d′ t o d → Left v t′ o′ d′ t₀ o₀ d₀
+  pub left-then : (t′ : Tally) (o′ : Bytes) (d′ : D) → Left v t′ o′ d′ t o d → Left v t′ o′ d′ t₀ o₀ d₀
   left-then t′ o′ d′ m =
       let len = left-len in
       record {

@@ -8,6 +8,7 @@ use native.Mathlib.Nat.{add-zero}
 use borrow.Author.Tests.{eqb-true}
 use lib.Dec.{eqb}
 use lib.ListN.{length, getD, drop}
+use lib.Seq.{sets}
 use Rattle.order.specs.Map.{Item, All}
 use Rattle.change.specs.Change.{Change, announce}
 use Rattle.field.specs.declared.tag.Form.the-variants.{Snapshot, Delta}
@@ -26,20 +27,21 @@ use Rattle.item.proofs.Readings.{says-cons}
 use Rattle.item.proofs.Heres.{here, cell, next, reads, behind, within, lies}
 use Rattle.message.specs.declared.version.Version.{Version}
 use Rattle.message.specs.Message.{pdu}
-use Rattle.message.specs.Record.{messageOf}
-use Rattle.pdu.specs.Write.{Sayable, PutIs}
+use Rattle.pdu.specs.Write.{ipv4Of, ipv6Of, sizeOf, Lies23, Sayable, PutIs}
+use Rattle.pdu.proofs.Records.{origin-lies, ipv4-size, ipv4-message, ipv6-size, ipv6-message, no-room, put-all}
 use Rattle.wire.specs.declared.tally.Tally.{Tally}
+use Rattle.wire.specs.declared.origins.Run.{Run}
 use Rattle.wire.specs.Tally.{Says, ItemIs}
-use Rattle.wire.specs.Left.{Left, Listed, originKey, originAct, OriginAt, Passed}
+use Rattle.wire.specs.Left.{Left, Listed, counted, originKey, originAct, originPdu, OriginAt, Passed}
 use Rattle.wire.proofs.Saying.{tally-path}
 use Rattle.wire.proofs.Counting.{origins-spoken, item-said}
-use Rattle.wire.proofs.Looping.{left-one, listed-more, listed-room}
+use Rattle.wire.proofs.Looping.{left-one, left-then, listed-more, listed-room}
 
 -- ---- origin_at
 
 -- a no decides nothing
-pub no-origin : (s : Bytes) (at : ℕ) → If false (OriginAt s at)
-no-origin s at = record { holds = λ e. absurd (false≢true e) }
+pub no-origin : (s : Bytes) (at n : ℕ) → If false (OriginAt s at n)
+no-origin s at n = record { holds = λ e. absurd (false≢true e) }
 
 -- an origin's field as an item
 origin-item : (tag : ℕ) (b : Bytes) → tag ≡ 1 → itemAs Announced (record { tag = tag; body = b }) ≡ record { key = 1 ∷ b; val = announce [] }
@@ -72,8 +74,9 @@ module _ (s : Bytes) (at : ℕ) (r : Ready Announced s at) (h : 26 ≤ length s 
         ∙ ap (λ (b : Bytes). record { key = 1 ∷ b; val = announce [] }) body-is
         ∙ rw z
 
-    origin : OriginAt s at
+    origin : OriginAt s at (getD s (at + 3) 0)
     origin = record {
+      family = refl;
       key = record { fits = record { ordered = omega arith; within = omega arith }; kind = omega arith; short = omega arith };
       is = says-cons (drop at s) (cell Snapshot s at (r .good) inside) (drop (next Snapshot s at (r .good) inside) s) Announced
           (cells-more (drop at s) (f .tag) (f .body) (drop (next Snapshot s at (r .good) inside) s) (reads Snapshot s at (r .good) inside))
@@ -81,16 +84,50 @@ module _ (s : Bytes) (at : ℕ) (r : Ready Announced s at) (h : 26 ≤ length s 
       next = rw (← next-is) (record { good = behind Snapshot s at (r .good) inside; within = within Snapshot s at (r .good) inside });
     }
 
-  pub is-origin : If (eqb (getD s at 0) 1) (OriginAt s at)
-  is-origin = record { holds = λ z. origin (eqb-true (getD s at 0) 1 z) }
+    pub is-origin : (n : ℕ) → If (eqb (getD s (at + 3) 0) n) (OriginAt s at n)
+    is-origin n = record { holds = λ z. rw (eqb-true (getD s (at + 3) 0) n z) at origin }
 
 pub ruleset origins-at = (no-origin, is-origin)
 
--- ---- put_origins
+-- ---- put_four, put_six
 
--- what was counted, with another length and another number of announcements
-abbrev pub counted : Tally → ℕ → ℕ → Tally
-counted t len announced = record { len = len; announced = announced; withdrawn = t .withdrawn; keys = t .keys; aspas = t .aspas }
+module _ (s : Bytes) (at n : ℕ) (c : OriginAt s at n) where
+  sayable : Sayable s (originKey at)
+  sayable = record { inside = c .key; origin = λ h. omega arith; other = λ h. absurd (h refl) }
+
+  pub one-lies : Lies23 s (at + 3)
+  one-lies = origin-lies s (originKey at) sayable refl
+
+  pub one-place : at + 26 ≤ length s
+  one-place = c .next .within
+
+module _ (v : Version) (s : Bytes) (at : ℕ) (o : Bytes) (i : ℕ) where
+  module _ (c : OriginAt s at 4) where
+    four-size : 20 ≡ sizeOf (keyIn s (originKey at))
+    four-size = ipv4-size s (originKey at) (sayable s at 4 c) refl (c .family)
+
+    pub four-none : length o < i + 20 → PutIs (originPdu v s at) o i o 20
+    four-none = no-room s (originKey at) (sayable s at 4 c) 20 four-size v 1 o i
+
+    pub four-put : (p : Bytes) → p ≡ sets o i (pdu v (ipv4Of 1 (part s (at + 3) (at + 3 + 23)))) → PutIs (originPdu v s at) o i p 20
+    four-put p q = put-all s (originKey at) (sayable s at 4 c) 20 four-size v 1 o p i (ipv4-message s (originKey at) (sayable s at 4 c) refl (c .family) v 1 o p i q)
+
+  module _ (c : OriginAt s at 6) where
+    not-four : getD s (at + 3) 0 ≡ 4 → ⊥
+    not-four e = omega (arith, c .family)
+
+    six-size : 32 ≡ sizeOf (keyIn s (originKey at))
+    six-size = ipv6-size s (originKey at) (sayable s at 6 c) refl not-four
+
+    pub six-none : length o < i + 32 → PutIs (originPdu v s at) o i o 32
+    six-none = no-room s (originKey at) (sayable s at 6 c) 32 six-size v 1 o i
+
+    pub six-put : (p : Bytes) → p ≡ sets o i (pdu v (ipv6Of 1 (part s (at + 3) (at + 3 + 23)))) → PutIs (originPdu v s at) o i p 32
+    six-put p q = put-all s (originKey at) (sayable s at 6 c) 32 six-size v 1 o p i (ipv6-message s (originKey at) (sayable s at 6 c) refl not-four v 1 o p i q)
+
+pub ruleset one = (one-lies, one-place, four-none, four-put, six-none, six-put)
+
+-- ---- put_fours, put_sixes
 
 pub record Running (v : Version) (s : Bytes) (from : ℕ) (t : Tally) (o₀ : Bytes) (at : ℕ) (o : Bytes) (len announced : ℕ) : Type 0 where
   pub long : length o ≡ length o₀
@@ -108,18 +145,15 @@ module _ (v : Version) (s : Bytes) (from : ℕ) (t : Tally) (o₀ : Bytes) (at :
   pub run-len : len < 2 ^ 62
   run-len = listed-room s at _ (i .listed) .len
 
-  pub run-done : Passed v s from t o₀ o (record { at = at; tally = counted t len announced })
-  run-done = record { on = i .on; listed = i .listed; left = i .left }
+  pub run-done : (r : Run) → r ≡ record { at = at; tally = counted t len announced } → Passed v s from t o₀ o r
+  run-done r e = rw e (record { on = i .on; listed = i .listed; left = i .left })
 
-  module _ (b : Bool) (c : If b (OriginAt s at)) (e : b ≡ true) where
-    here-is : OriginAt s at
+  module _ (n : ℕ) (b : Bool) (c : If b (OriginAt s at n)) (e : b ≡ true) where
+    pub here-is : OriginAt s at n
     here-is = c .holds e
 
     pub run-inside : at + 26 ≤ length s
     run-inside = here-is .next .within
-
-    pub run-sayable : Sayable s (originKey at)
-    run-sayable = record { inside = here-is .key; origin = λ h. omega arith; other = λ h. absurd (h refl) }
 
     pub run-announced : announced + 1 < 2 ^ 64
     run-announced = let z = listed-room s at _ (i .listed) .announced in omega arith
@@ -127,7 +161,7 @@ module _ (v : Version) (s : Bytes) (from : ℕ) (t : Tally) (o₀ : Bytes) (at :
     pub run-less : length s - (at + 26) < length s - at
     run-less = let z = run-inside in omega arith
 
-    module _ (o′ : Bytes) (size : ℕ) (p : PutIs (pdu v (messageOf 1 (keyIn s (originKey at)))) o len o′ size) where
+    module _ (o′ : Bytes) (size : ℕ) (p : PutIs (originPdu v s at) o len o′ size) where
       pub run-sum : len + size < 2 ^ 64
       run-sum = omega (arith, run-len, p .small)
 
@@ -149,4 +183,19 @@ module _ (v : Version) (s : Bytes) (from : ℕ) (t : Tally) (o₀ : Bytes) (at :
         left = left-one v _ o _ t o₀ _ (i .left) (itemIn s s (originKey at) (originAct at)) (readAs Announced (drop (at + 26) s)) o′ _ (here-is .is) item;
       }
 
-pub ruleset running = (run-start, run-ready, run-len, run-done, run-inside, run-sayable, run-announced, run-less, run-sum, run-again)
+pub ruleset running = (run-start, run-ready, run-len, run-done, here-is, run-inside, run-announced, run-less, run-sum, run-again)
+
+-- ---- put_origins
+
+module _ (v : Version) (s : Bytes) (from : ℕ) (t : Tally) (o o₁ : Bytes) (q : Run) (p : Passed v s from t o o₁ q) where
+  pub pass-listed : Listed s (q .at) (q .tally)
+  pass-listed = p .listed
+
+  pub pass-on : (o₂ : Bytes) (r : Run) → Passed v s (q .at) (q .tally) o₁ o₂ r → Passed v s from t o o₂ r
+  pass-on o₂ r z = record {
+    on = omega (arith, p .on, z .on);
+    listed = z .listed;
+    left = left-then v (q .tally) o₁ _ t o _ (p .left) (r .tally) o₂ _ (z .left);
+  }
+
+pub ruleset passes = (pass-listed, pass-on)

@@ -2,12 +2,13 @@
 use Prim.Native.Nat.{ℕ, _+_, _*_, _≤_}
 use mathlib.Core.Path.{_≡_}
 use mathlib.Core.List.{_∷_}
-use lib.ListN.{length, drop}
+use lib.ListN.{length, getD, drop}
 use lib.Seq.{sets}
 use Rattle.order.specs.Map.{All}
 use Rattle.change.specs.Difference as change
 use Rattle.field.specs.declared.tag.Form.the-variants.{Delta}
 use Rattle.field.specs.declared.key.Key.{Key}
+use Rattle.field.specs.Places.{keyIn}
 use Rattle.payload.specs.Content.{Bytes}
 use Rattle.payload.specs.Valid.{Valid}
 use Rattle.item.specs.declared.place.Act.{Act}
@@ -16,6 +17,8 @@ use Rattle.item.specs.declared.reading.Reading.the-variants.{Announced}
 use Rattle.item.specs.Place.{itemIn, KeyIn}
 use Rattle.item.specs.Reading.{readAs, Ready}
 use Rattle.message.specs.declared.version.Version.{Version}
+use Rattle.message.specs.Message.{pdu}
+use Rattle.message.specs.Record.{messageOf}
 use Rattle.wire.specs.declared.tally.Tally.{Tally}
 use Rattle.wire.specs.declared.origins.Run.{Run}
 use Rattle.wire.specs.Tally.{saying, plusAll}
@@ -37,6 +40,10 @@ pub record Listed (s : Bytes) (at : ℕ) (t : Tally) : Type 0 where
   pub aspas : t .aspas ≤ at
   pub valid : All (Valid Delta) (readAs Announced (drop at s))
 
+-- what was counted, with another length and another number of announcements
+abbrev pub counted : Tally → ℕ → ℕ → Tally
+counted t len announced = record { len = len; announced = announced; withdrawn = t .withdrawn; keys = t .keys; aspas = t .aspas }
+
 -- the key of the origin at `at`, behind the three bytes of its head
 abbrev pub originKey : ℕ → Key
 originKey at = record { kind = 1; from = at + 3; to = at + 26 }
@@ -45,8 +52,13 @@ originKey at = record { kind = 1; from = at + 3; to = at + 26 }
 abbrev pub originAct : ℕ → Act
 originAct at = Announce (record { from = at + 26; to = at + 26 })
 
--- the snapshot s has an origin at `at`, and goes on 26 bytes behind
-pub record OriginAt (s : Bytes) (at : ℕ) : Type 0 where
+-- the message that announces it
+abbrev pub originPdu : Version → Bytes → ℕ → Bytes
+originPdu v s at = pdu v (messageOf 1 (keyIn s (originKey at)))
+
+-- the snapshot s has an origin of the family of this number at `at`, and goes on 26 bytes behind
+pub record OriginAt (s : Bytes) (at number : ℕ) : Type 0 where
+  pub family : getD s (at + 3) 0 ≡ number
   pub key : KeyIn s (originKey at)
   pub is : readAs Announced (drop at s) ≡ itemIn s s (originKey at) (originAct at) ∷ readAs Announced (drop (at + 26) s)
   pub next : Ready Announced s (at + 26)

@@ -1,67 +1,19 @@
 use borrow.Author.Needs.{needs}
-use Rattle.wire.proofs.Running.{Running, running}
-use Prim.Native.Nat.{_-_, _+_}
-use lib.ListN.{length}
+use Rattle.wire.proofs.Running.{passes}
 use Rattle.wire.proofs.origins.put_origins.Statement.{statement}
 use Rattle.wire.proofs.origins.put_origins.Tie as tie
 
-abbrev Inv-loop : tie.InvT-loop
-Inv-loop version s from out₀ t at₀ len₀ announced₀ out at len announced = Running version s from t out₀ at out len announced
+put-fours-requires : tie.Need-put-fours-requires
+put-fours-requires c κs = search (passes, needs)
 
-abbrev μ-loop : tie.MeasureT-loop
-μ-loop version s from out₀ t at₀ len₀ announced₀ out at len announced = length s - at
+put-sixes-requires : tie.Need-put-sixes-requires
+put-sixes-requires c κs = search (passes, needs)
 
-loop-holds : tie.Need-loop-holds Inv-loop μ-loop
-loop-holds c = search (running, needs)
+same-length : tie.Need-same-length
+same-length c = search (passes, needs)
 
-origin-at-requires : tie.Need-origin-at-requires Inv-loop μ-loop
-origin-at-requires c κs = search (running, needs)
-
-add-t12 : tie.Need-add-t12 Inv-loop μ-loop
-add-t12 c = search (running, needs)
-
-add-t13 : tie.Need-add-t13 Inv-loop μ-loop
-add-t13 c = search (running, needs)
-
-put-message-requires : tie.Need-put-message-requires Inv-loop μ-loop
-put-message-requires c κs = search (running, needs)
-
-add-len : tie.Need-add-len Inv-loop μ-loop
-add-len c = search (running, needs)
-
-add-at : tie.Need-add-at Inv-loop μ-loop
-add-at c = search (running, needs)
-
-add-announced : tie.Need-add-announced Inv-loop μ-loop
-add-announced c = search (running, needs)
-
-loop-less : tie.Need-loop-less Inv-loop μ-loop
-loop-less c = search (running, needs)
-
-loop-again : tie.Need-loop-again Inv-loop μ-loop
-loop-again c = search (running, needs)
-
-same-length : tie.Need-same-length Inv-loop μ-loop
-same-length c = search (running, needs)
-
-returns : tie.Need-returns Inv-loop μ-loop
-returns c = search (running, needs)
+returns : tie.Need-returns
+returns c = search (passes, needs)
 
 pub put-origins-spec : {M : Type 1} → statement M
-put-origins-spec =
-    tie.close
-    (tie.spec
-    Inv-loop
-    μ-loop
-    loop-holds
-    origin-at-requires
-    add-t12
-    add-t13
-    put-message-requires
-    add-len
-    add-at
-    add-announced
-    loop-less
-    loop-again
-    same-length
-    returns)
+put-origins-spec = tie.close (tie.spec put-fours-requires put-sixes-requires same-length returns)
