@@ -319,17 +319,7 @@ module _ (s : Bytes) (o : Octets s) (x y : ℕ) (f : Fronted s x y) where
 
 pub ruleset behinds = (behind-one, behind-four, behind-four-2, behind-six, behind-keys, four-decide)
 
--- ---- compare_at, is_before, same_record
-
-module _ (s : Bytes) (o : Octets s) (x y : ℕ) (a : Payload s x) (b : Payload s y) (p q : ℕ) (d : p ≡ frontKey (keyAt s x)) (e : q ≡ frontKey (keyAt s y)) where
-  pub fronts-less : p < q → Less ≡ bytes (keyAt s x) (keyAt s y)
-  fronts-less h = sym (front-less (keyAt s x) (keyAt s y) (λ i. key-octets s y o i .fits) (omega arith))
-
-  pub fronts-greater : q < p → Greater ≡ bytes (keyAt s x) (keyAt s y)
-  fronts-greater h = sym (front-greater (keyAt s x) (keyAt s y) (λ i. key-octets s x o i .fits) (omega arith))
-
-  pub fronts-same : q ≤ p → p ≤ q → Fronted s x y
-  fronts-same h k = record { one = a; other = b; front = omega arith }
+-- ---- is_before, same_record
 
 module _ (s : Bytes) (x y : ℕ) (r : Ordering) (e : r ≡ bytes (keyAt s x) (keyAt s y)) where
   pub before-less : r ≡ Less → true ≡ precedes s x y
@@ -353,4 +343,26 @@ module _ (s : Bytes) (x y : ℕ) (r : Ordering) (e : r ≡ bytes (keyAt s x) (ke
   pub same-greater : r ≡ Greater → false ≡ isEqual (bytes (keyAt s x) (keyAt s y))
   same-greater f = rw (sym e ∙ f)
 
-pub ruleset comparing = (fronts-less, fronts-greater, fronts-same, before-less, before-equal, before-greater, same-less, same-equal, same-greater)
+module _ (s : Bytes) (o : Octets s) (x y : ℕ) (a : Payload s x) (b : Payload s y) (p q : ℕ) (d : p ≡ frontKey (keyAt s x)) (e : q ≡ frontKey (keyAt s y)) where
+  pub fronts-less : p < q → Less ≡ bytes (keyAt s x) (keyAt s y)
+  fronts-less h = sym (front-less (keyAt s x) (keyAt s y) (λ i. key-octets s y o i .fits) (omega arith))
+
+  pub fronts-greater : q < p → Greater ≡ bytes (keyAt s x) (keyAt s y)
+  fronts-greater h = sym (front-greater (keyAt s x) (keyAt s y) (λ i. key-octets s x o i .fits) (omega arith))
+
+  pub fronts-same : q ≤ p → p ≤ q → Fronted s x y
+  fronts-same h k = record { one = a; other = b; front = omega arith }
+
+  pub front-before : p < q → true ≡ precedes s x y
+  front-before h = before-less s x y Less (fronts-less h) refl
+
+  pub front-behind : q < p → false ≡ precedes s x y
+  front-behind h = before-greater s x y Greater (fronts-greater h) refl
+
+  pub front-other : p < q → false ≡ isEqual (bytes (keyAt s x) (keyAt s y))
+  front-other h = same-less s x y Less (fronts-less h) refl
+
+  pub front-other-2 : q < p → false ≡ isEqual (bytes (keyAt s x) (keyAt s y))
+  front-other-2 h = same-greater s x y Greater (fronts-greater h) refl
+
+pub ruleset comparing = (front-before, front-behind, front-other, front-other-2, fronts-same, before-less, before-equal, before-greater, same-less, same-equal, same-greater)

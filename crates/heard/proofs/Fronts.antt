@@ -26,8 +26,8 @@ module _ (s : Bytes) (at : ℕ) (p : Payload s at) where
   pub second-word : at + 8 + 8 ≤ length s
   second-word = omega (arith, least s at p)
 
-  pub third-word : at + 12 + 8 ≤ length s
-  third-word = omega (arith, least s at p)
+  pub third-word : (k : ℕ) → k ≡ typeAt s at → k ≡ 6 → at + 12 + 8 ≤ length s
+  third-word k d e = omega (arith, least s at p)
 
   module _ (o : Octets s) where
     pub front-four : typeAt s at ≡ 4 → (w : ℕ) → w ≡ wordAt s (at + 8) → 0x0104000000000000 + w % 4_294_967_296 * 65_536 ≡ frontKey (keyAt s at)

@@ -87,20 +87,16 @@ fn compare_behind(s: &[u8], x: usize, y: usize) -> Ordering
     compare_keys(s, x, y)
 }
 
-// How the records of two messages stand.
-fn compare_at(s: &[u8], x: usize, y: usize) -> Ordering
-    requires { ⌜ Payload (now s) x × Payload (now s) y ⌝ }
-    ensures { λ r. ⌜ r ≡ bytes (keyAt (now (s .entry)) x) (keyAt (now (s .entry)) y) ⌝ }
+// Whether the message at x stands before the one at y, where their fronts are the same.
+fn is_before_behind(s: &[u8], x: usize, y: usize) -> bool
+    requires { ⌜ Fronted (now s) x y ⌝ }
+    ensures { λ r. ⌜ r ≡ precedes (now (s .entry)) x y ⌝ }
 {
-    let p = front_at(s, x);
-    let q = front_at(s, y);
-    if p < q {
-        return Ordering::Less;
+    match compare_behind(s, x, y) {
+        Ordering::Less => true,
+        Ordering::Equal => x < y,
+        Ordering::Greater => false,
     }
-    if q < p {
-        return Ordering::Greater;
-    }
-    compare_behind(s, x, y)
 }
 
 // Whether the message at x stands before the one at y.
@@ -108,9 +104,25 @@ pub fn is_before(s: &[u8], x: usize, y: usize) -> bool
     requires { ⌜ Payload (now s) x × Payload (now s) y ⌝ }
     ensures { λ r. ⌜ r ≡ precedes (now (s .entry)) x y ⌝ }
 {
-    match compare_at(s, x, y) {
-        Ordering::Less => true,
-        Ordering::Equal => x < y,
+    let p = front_at(s, x);
+    let q = front_at(s, y);
+    if p < q {
+        return true;
+    }
+    if q < p {
+        return false;
+    }
+    is_before_behind(s, x, y)
+}
+
+// Whether two messages are of the same record, where their fronts are the same.
+fn is_same_behind(s: &[u8], x: usize, y: usize) -> bool
+    requires { ⌜ Fronted (now s) x y ⌝ }
+    ensures { λ r. ⌜ r ≡ isEqual (bytes (keyAt (now (s .entry)) x) (keyAt (now (s .entry)) y)) ⌝ }
+{
+    match compare_behind(s, x, y) {
+        Ordering::Less => false,
+        Ordering::Equal => true,
         Ordering::Greater => false,
     }
 }
@@ -120,9 +132,13 @@ pub fn same_record(s: &[u8], x: usize, y: usize) -> bool
     requires { ⌜ Payload (now s) x × Payload (now s) y ⌝ }
     ensures { λ r. ⌜ r ≡ isEqual (bytes (keyAt (now (s .entry)) x) (keyAt (now (s .entry)) y)) ⌝ }
 {
-    match compare_at(s, x, y) {
-        Ordering::Less => false,
-        Ordering::Equal => true,
-        Ordering::Greater => false,
+    let p = front_at(s, x);
+    let q = front_at(s, y);
+    if p < q {
+        return false;
     }
+    if q < p {
+        return false;
+    }
+    is_same_behind(s, x, y)
 }

@@ -5,20 +5,17 @@ ghost use mathlib.Core.Path.{_≡_};
 ghost use Rattle.item.specs.Front.{frontKey};
 ghost use Rattle.heard.specs.Place.{keyAt, Payload};
 
-// The front of a message's record: its kind, of a prefix the family, and then what comes first in the message. Both words are
-// read whatever the type is, so that no branch waits for it.
+// The front of a message's record: its kind, of a prefix the family, and then what comes first in the message.
 pub fn front_at(s: &[u8], at: usize) -> usize
     requires { ⌜ Payload (now s) at ⌝ }
     ensures { λ r. ⌜ r ≡ frontKey (keyAt (now (s .entry)) at) ⌝ }
 {
     let kind = type_at(s, at);
-    let second = word_at(s, at + 8);
-    let third = word_at(s, at + 12);
     if kind == 4 {
-        return 0x0104000000000000 + second % 4294967296 * 65536;
+        return 0x0104000000000000 + word_at(s, at + 8) % 4294967296 * 65536;
     }
     if kind == 6 {
-        return 0x0106000000000000 + third / 65536;
+        return 0x0106000000000000 + word_at(s, at + 12) / 65536;
     }
-    0x0200000000000000 + second / 256
+    0x0200000000000000 + word_at(s, at + 8) / 256
 }

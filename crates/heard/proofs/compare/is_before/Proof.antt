@@ -3,17 +3,11 @@ use Rattle.heard.proofs.Comparing.{comparing}
 use Rattle.heard.proofs.compare.is_before.Statement.{statement}
 use Rattle.heard.proofs.compare.is_before.Tie as tie
 
-compare-at-requires : tie.Need-compare-at-requires
-compare-at-requires c κs = search (comparing, needs)
+front-at-requires : tie.Need-front-at-requires
+front-at-requires c κs = search (comparing, needs)
 
-enum-told : tie.Need-enum-told
-enum-told c = search (comparing, needs)
-
-enum-told-2 : tie.Need-enum-told-2
-enum-told-2 c = search (comparing, needs)
-
-enum-told-3 : tie.Need-enum-told-3
-enum-told-3 c = search (comparing, needs)
+front-at-requires-2 : tie.Need-front-at-requires-2
+front-at-requires-2 c κs = search (comparing, needs)
 
 returns : tie.Need-returns
 returns c = search (comparing, needs)
@@ -21,10 +15,19 @@ returns c = search (comparing, needs)
 returns-2 : tie.Need-returns-2
 returns-2 c = search (comparing, needs)
 
+is-before-behind-requires : tie.Need-is-before-behind-requires
+is-before-behind-requires c κs = search (comparing, needs)
+
 returns-3 : tie.Need-returns-3
 returns-3 c = search (comparing, needs)
 
 pub is-before-spec : {M : Type 1} → statement M
 is-before-spec =
     tie.close
-    (tie.spec compare-at-requires enum-told enum-told-2 enum-told-3 returns returns-2 returns-3)
+    (tie.spec
+    front-at-requires
+    front-at-requires-2
+    returns
+    returns-2
+    is-before-behind-requires
+    returns-3)
