@@ -110,19 +110,20 @@ static uint32_t do_query_messages(void)
 {
     taplevung_session session = {(uint16_t)state.session};
     taplevung_serial oldest = {state.newest.value - state.n};
-    return taplevung_query_messages(state, session, oldest, times, snapshots, STORE, deltas, STORE, out, STORE).answer.kind;
+    return taplevung_query_messages(
+               1, state, session, oldest, times, snapshots, STORE, deltas, STORE, out, STORE).answer.kind;
 }
 static uint32_t do_full_messages(void)
 {
-    return taplevung_full_messages(state, times, snapshots, STORE, deltas, STORE, out, STORE).answer.kind;
+    return taplevung_full_messages(1, state, times, snapshots, STORE, deltas, STORE, out, STORE).answer.kind;
 }
 static uint32_t do_notify_message(void)
 {
-    return taplevung_notify_message(state, out, STORE).answer.kind;
+    return taplevung_notify_message(1, state, out, STORE).answer.kind;
 }
 static uint32_t do_judge(void)
 {
-    return taplevung_judge(snapshot, snapshot_length, messages, messages_length, out, STORE).answer.kind;
+    return taplevung_judge(1, snapshot, snapshot_length, messages, messages_length, out, STORE).answer.kind;
 }
 
 static const struct {

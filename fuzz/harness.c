@@ -265,10 +265,10 @@ static size_t put_number(uint8_t *to, size_t bytes, uint32_t x)
     return bytes;
 }
 
-/* A message: version, type, two bytes, and the length with these many bytes behind the header. */
-static size_t put_header(uint8_t *to, uint8_t type, uint32_t two, size_t body)
+/* Another cache's message: version, type, two bytes, and the length with these many bytes behind the header. */
+static size_t told_header(uint8_t *to, uint8_t version, uint8_t type, uint32_t two, size_t body)
 {
-    to[0] = 1;
+    to[0] = version;
     to[1] = type;
     put_number(to + 2, 2, two);
     put_number(to + 4, 4, (uint32_t)(8 + body));
@@ -276,12 +276,12 @@ static size_t put_header(uint8_t *to, uint8_t type, uint32_t two, size_t body)
 }
 
 /* The message of an origin or a router key, by its field. */
-static size_t put_payload(uint8_t *to, const uint8_t *field, uint8_t flags)
+static size_t told_payload(uint8_t *to, uint8_t version, const uint8_t *field, uint8_t flags)
 {
     size_t body = (size_t)field[1] << 8 | field[2], address = field[3] == 4 ? 4 : 16;
     if (field[0] == 2) {
         memcpy(to + 8, field + 3, body);
-        return put_header(to, 9, (uint32_t)flags << 8, body);
+        return told_header(to, version, 9, (uint32_t)flags << 8, body);
     }
     to[8] = flags;
     to[9] = field[20];
@@ -289,12 +289,12 @@ static size_t put_payload(uint8_t *to, const uint8_t *field, uint8_t flags)
     to[11] = 0;
     memcpy(to + 12, field + 4, address);
     memcpy(to + 12 + address, field + 22, 4);
-    return put_header(to, field[3], 0, 8 + address);
+    return told_header(to, version, field[3], 0, 8 + address);
 }
 
 /* An answer to one who holds the snapshot of n bytes: bytes as they come, or messages that mostly fit, then damaged or
  * not. */
-static size_t put_messages(struct input *in, uint8_t *to, const uint8_t *snapshot, size_t n)
+static size_t put_messages(struct input *in, uint8_t *to, uint8_t version, const uint8_t *snapshot, size_t n)
 {
     uint32_t mode = u8(in);
     size_t length = 0;
@@ -308,7 +308,7 @@ static size_t put_messages(struct input *in, uint8_t *to, const uint8_t *snapsho
     int fitting = check(SNAPSHOT, snapshot, n).number == 0;
     memcpy(set, snapshot, n);
     uint32_t session = u8(in);
-    length = put_header(to, 3, session, 0);
+    length = told_header(to, version, 3, session, 0);
     for (uint32_t left = mode >> 3; left > 0; left--) {
         uint32_t what = u8(in);
         int long_lists = 0;
@@ -316,7 +316,7 @@ static size_t put_messages(struct input *in, uint8_t *to, const uint8_t *snapsho
         if (field[0] == 3) {
             /* a message of another type, with whatever length */
             to[length + 8] = to[length + 9] = to[length + 10] = to[length + 11] = 0;
-            length += put_header(to + length, (uint8_t)(what & 15), session, what >> 4 & 4);
+            length += told_header(to + length, version, (uint8_t)(what & 15), session, what >> 4 & 4);
             continue;
         }
         /* the flags that fit, or as they come */
@@ -325,15 +325,18 @@ static size_t put_messages(struct input *in, uint8_t *to, const uint8_t *snapsho
             flags = take_record(set, n, field, own, 1) >= 0;
             n = flags ? n + own : (size_t)take_record(set, n, field, own, 0);
         }
-        length += put_payload(to + length, field, flags);
+        length += told_payload(to + length, version, field, flags);
     }
-    length += put_header(to + length, 7, session ^ ((mode & 7) == 5), 16);
-    for (size_t i = 16; i > 0; i--)
+    /* the length of its version, or of the other */
+    size_t body = (version == 0) == ((mode & 7) == 4) ? 16 : 4;
+    length += told_header(to + length, version, 7, session ^ ((mode & 7) == 5), body);
+    for (size_t i = body; i > 0; i--)
         to[length - i] = (uint8_t)u8(in);
     if ((mode & 7) == 6) {
         size_t at = (u32(in) & 0xffff) % length;
         to[at] ^= (uint8_t)u8(in);
-        length -= u8(in) & 31;
+        size_t cut = u8(in) & 31;
+        length -= cut < length ? cut : length;
     }
     return length;
 }
@@ -465,23 +468,23 @@ static void application(struct input *in)
 
 static void judging(struct input *in)
 {
-    uint32_t places = u8(in);
+    uint32_t places = u8(in), version = u8(in) & 3;
     size_t snapshot_length = put_bytes(in, SNAPSHOT, scratch[0]);
-    size_t messages_length = put_messages(in, scratch[1], scratch[0], snapshot_length);
+    size_t messages_length = put_messages(in, scratch[1], version != 0, scratch[0], snapshot_length);
     struct slice snapshot = lend(0, scratch[0], snapshot_length, places & 1, 0);
     struct slice messages = lend(1, scratch[1], messages_length, places & 2, 0);
     struct slice out = lend_output(2, room(in, places), places & 4);
-    taplevung_judged j = taplevung_judge(snapshot.bytes, snapshot.length, messages.bytes, messages.length, out.bytes,
-                                         out.length);
+    taplevung_judged j = taplevung_judge(version, snapshot.bytes, snapshot.length, messages.bytes, messages.length,
+                                         out.bytes, out.length);
     const taplevung_answer *a = &j.answer;
-    note(7, a);
+    note(11, a);
     taplevung_judged rule = {{0, 0, 1, {0}, 0, 0, 0, 0}, {0}, {0, 0, 0}};
     struct verdict v = check(SNAPSHOT, scratch[0], snapshot_length);
     rule.answer.number = v.number;
     rule.answer.offset = v.offset;
     if (v.number == 0) {
         memcpy(scratch[2], scratch[0], snapshot_length);
-        rule = judge_into(scratch[2], snapshot_length, scratch[1], messages_length);
+        rule = judge_into(scratch[2], snapshot_length, version != 0, scratch[1], messages_length);
     }
     if (rule.answer.kind != 0 && rule.answer.length <= out.length) {
         LAW(accepted(a) && a->kind == 1 && a->serial.value == rule.answer.serial.value);
@@ -629,7 +632,6 @@ static int sent_all(const taplevung_sent *sent, struct slice out, uint32_t kind,
     }
     LAW(a->kind == kind && a->number == number && a->argument == 0 && a->offset == 0 && a->length == length);
     LAW(memcmp(out.bytes, scratch[2], length) == 0 && same_from(2, out, length));
-    LAW(sent->router_keys_skipped == 0);
     return 1;
 }
 
@@ -640,7 +642,8 @@ static void sent_data(const taplevung_sent *sent, struct slice out, const taplev
     if (!sent_all(sent, out, 1, 0, m.length))
         return;
     LAW(a->serial.value == s->newest.value && sent->session.value == (uint16_t)s->session);
-    LAW(a->announced == m.announced && a->withdrawn == m.withdrawn && sent->aspas_skipped == m.aspas);
+    LAW(a->announced == m.announced && a->withdrawn == m.withdrawn);
+    LAW(sent->router_keys_skipped == m.keys && sent->aspas_skipped == m.aspas);
 }
 
 static void messages(struct input *in, struct history *h, uint32_t places)
@@ -654,35 +657,40 @@ static void messages(struct input *in, struct history *h, uint32_t places)
     struct slice deltas = lend(1, h->deltas, h->deltas_length, places & 2, 0);
     struct slice out = lend_output(2, room(in, places), places & 4);
     uint16_t own = (uint16_t)s->session;
+    uint32_t version = what >> 5 & 3;
+    uint8_t told = version != 0;
     if ((what & 3) == 0) {
-        taplevung_sent sent = taplevung_notify_message(*s, out.bytes, out.length);
+        taplevung_sent sent = taplevung_notify_message(version, *s, out.bytes, out.length);
         note(7, &sent.answer);
-        put_serial(scratch[2], 0, own, s->newest.value);
-        struct messages m = {12, 0, 0, 0};
+        put_serial(scratch[2], told, 0, own, s->newest.value);
+        struct messages m = {12, 0, 0, 0, 0};
         sent_data(&sent, out, s, m);
         return;
     }
     int full = (what & 3) == 1;
-    taplevung_sent sent = full ? taplevung_full_messages(*s, times, snapshots.bytes, snapshots.length, deltas.bytes,
-                                                         deltas.length, out.bytes, out.length)
-                               : taplevung_query_messages(*s, session, serial, times, snapshots.bytes, snapshots.length,
-                                                          deltas.bytes, deltas.length, out.bytes, out.length);
+    taplevung_sent sent = full ? taplevung_full_messages(version, *s, times, snapshots.bytes, snapshots.length,
+                                                         deltas.bytes, deltas.length, out.bytes, out.length)
+                               : taplevung_query_messages(version, *s, session, serial, times, snapshots.bytes,
+                                                          snapshots.length, deltas.bytes, deltas.length, out.bytes,
+                                                          out.length);
     note(8 + full, &sent.answer);
     if (!formed(h)) {
         LAW(refused_with(&sent.answer, 7, 0, 0) && sent.session.value == 0 && same_from(2, out, 0));
         LAW(sent.router_keys_skipped == 0 && sent.aspas_skipped == 0);
     } else if (full) {
-        sent_data(&sent, out, s, messages_into(scratch[2], SNAPSHOT, h->snapshots, s->snapshot, own, s->newest.value, times));
+        sent_data(&sent, out, s,
+                  messages_into(scratch[2], told, SNAPSHOT, h->snapshots, s->snapshot, own, s->newest.value, times));
     } else if (session.value == own && is_served(s, serial)) {
         size_t length;
         const uint8_t *now = since(h, s->newest.value - serial.value, &length);
-        sent_data(&sent, out, s, messages_into(scratch[2], DELTA, now, length, own, s->newest.value, times));
+        sent_data(&sent, out, s, messages_into(scratch[2], told, DELTA, now, length, own, s->newest.value, times));
     } else {
         int other = session.value != own;
-        uint8_t *end = other ? put_error(scratch[2], session.value, serial.value) : put_header(scratch[2], 8, 0, 8);
+        uint8_t *end = other ? put_error(scratch[2], told, session.value, serial.value)
+                             : put_header(scratch[2], told, 8, 0, 8);
         if (sent_all(&sent, out, other ? 3 : 2, other ? 5 : 6, (size_t)(end - scratch[2])))
-            LAW(sent.session.value == 0 && sent.aspas_skipped == 0 && sent.answer.serial.value == 0 &&
-                sent.answer.announced == 0 && sent.answer.withdrawn == 0);
+            LAW(sent.session.value == 0 && sent.router_keys_skipped == 0 && sent.aspas_skipped == 0 &&
+                sent.answer.serial.value == 0 && sent.answer.announced == 0 && sent.answer.withdrawn == 0);
     }
 }
 

@@ -364,15 +364,15 @@ static ptrdiff_t take_record(uint8_t *to, size_t n, const uint8_t *record, size_
     return (ptrdiff_t)(n + length);
 }
 
-/* What the n bytes of messages at p make of the good snapshot of `length` bytes at `to`: 13, 14 or 15 and where, or all
- * that is said of a call that is accepted. */
-static taplevung_judged judge_into(uint8_t *to, size_t length, const uint8_t *p, size_t n)
+/* What the n bytes of messages of a version at p make of the good snapshot of `length` bytes at `to`: 13, 14 or 15 and
+ * where, or all that is said of a call that is accepted. */
+static taplevung_judged judge_into(uint8_t *to, size_t length, uint8_t version, const uint8_t *p, size_t n)
 {
     static uint8_t record[2048];
     taplevung_judged said = {{0, 13, 2, {0}, 0, 0, 0, 0}, {0}, {0, 0, 0}}, done = {{1, 0, 0, {0}, 0, 0, 0, 0}, {0}, {0, 0, 0}};
     for (size_t at = 0, size; at < n; at += size) {
         said.answer.offset = at;
-        if (n - at < 8 || p[at] != 1)
+        if (n - at < 8 || p[at] != version)
             return said;
         size = number_at(p + at + 4, 4);
         const uint8_t *m = p + at;
@@ -384,13 +384,15 @@ static taplevung_judged judge_into(uint8_t *to, size_t length, const uint8_t *p,
             continue;
         }
         if (m[1] == 7) {
-            if (size != 24 || session != done.session.value)
+            if (size != (version == 0 ? 12 : 24) || session != done.session.value)
                 return said;
             said.answer.offset = at + size;
             if (at + size != n)
                 return said;
             done.answer.serial.value = (uint32_t)number_at(m + 8, 4);
             done.answer.length = length;
+            if (version == 0)
+                return done;
             done.timing.refresh = (uint32_t)number_at(m + 12, 4);
             done.timing.retry = (uint32_t)number_at(m + 16, 4);
             done.timing.expire = (uint32_t)number_at(m + 20, 4);
@@ -398,7 +400,7 @@ static taplevung_judged judge_into(uint8_t *to, size_t length, const uint8_t *p,
         }
         int announces = 0;
         size_t own = record_of(record, m, size, &announces);
-        if (own == 0)
+        if (own == 0 || (version == 0 && m[1] == 9))
             return said;
         ptrdiff_t now = take_record(to, length, record, own, announces);
         if (now < 0) {
@@ -429,7 +431,7 @@ static taplevung_timing_values timing_of(uint32_t refresh, uint32_t retry, uint3
     return t;
 }
 
-/*------------ Router messages, RFC 8210, version 1 -------------------------*/
+/*------------ Router messages, RFC 6810 (version 0) and RFC 8210 (1) -------*/
 
 static uint8_t *put32(uint8_t *p, uint32_t x)
 {
@@ -444,9 +446,9 @@ static uint8_t *put_run(uint8_t *p, const uint8_t *from, size_t n)
     return p + n;
 }
 
-static uint8_t *put_header(uint8_t *p, unsigned type, unsigned two, size_t length)
+static uint8_t *put_header(uint8_t *p, uint8_t version, unsigned type, unsigned two, size_t length)
 {
-    p[0] = 1;
+    p[0] = version;
     p[1] = (uint8_t)type;
     p[2] = (uint8_t)(two >> 8);
     p[3] = (uint8_t)two;
@@ -454,25 +456,25 @@ static uint8_t *put_header(uint8_t *p, unsigned type, unsigned two, size_t lengt
 }
 
 /* A Serial Notify (type 0) or a Serial Query (type 1). */
-static uint8_t *put_serial(uint8_t *p, unsigned type, uint16_t session, uint32_t serial)
+static uint8_t *put_serial(uint8_t *p, uint8_t version, unsigned type, uint16_t session, uint32_t serial)
 {
-    return put32(put_header(p, type, session, 12), serial);
+    return put32(put_header(p, version, type, session, 12), serial);
 }
 
 /* Code 0, the Serial Query enclosed, no text. */
-static uint8_t *put_error(uint8_t *p, uint16_t session, uint32_t serial)
+static uint8_t *put_error(uint8_t *p, uint8_t version, uint16_t session, uint32_t serial)
 {
-    return put32(put_serial(put32(put_header(p, 10, 0, 28), 12), 1, session, serial), 0);
+    return put32(put_serial(put32(put_header(p, version, 10, 0, 28), 12), version, 1, session, serial), 0);
 }
 
 /* An origin or a router key. */
-static uint8_t *put_payload(uint8_t *p, const struct field *f, int announce)
+static uint8_t *put_payload(uint8_t *p, uint8_t version, const struct field *f, int announce)
 {
     const uint8_t *b = f->key;
     if (f->kind == 2)
-        return put_run(put_header(p, 9, announce ? 0x100 : 0, 8 + f->key_length), b, f->key_length);
+        return put_run(put_header(p, version, 9, announce ? 0x100 : 0, 8 + f->key_length), b, f->key_length);
     size_t address = b[0] == 4 ? 4 : 16;
-    p = put_header(p, b[0], 0, 16 + address);
+    p = put_header(p, version, b[0], 0, 16 + address);
     *p++ = (uint8_t)announce;
     *p++ = b[17];
     *p++ = b[18];
@@ -482,28 +484,29 @@ static uint8_t *put_payload(uint8_t *p, const struct field *f, int announce)
 
 struct messages {
     size_t length;
-    uint64_t announced, withdrawn, aspas;
+    uint64_t announced, withdrawn, keys, aspas; /* the last two are skipped */
 };
 
 /* What a good delta or snapshot says. */
-static struct messages messages_into(uint8_t *to, enum form form, const uint8_t *from, size_t n, uint16_t session,
-                                     uint32_t serial, taplevung_timing_values times)
+static struct messages messages_into(uint8_t *to, uint8_t version, enum form form, const uint8_t *from, size_t n,
+                                     uint16_t session, uint32_t serial, taplevung_timing_values times)
 {
-    struct messages m = {0, 0, 0, 0};
-    uint8_t *p = put_header(to, 3, session, 8);
+    struct messages m = {0, 0, 0, 0, 0};
+    uint8_t *p = put_header(to, version, 3, session, 8);
     for (size_t at = 0; at < n;) {
         struct field f = field_at(form, from + at);
         at += f.length;
-        if (f.kind == 3) {
-            m.aspas++;
+        if (f.kind == 3 || (f.kind == 2 && version == 0)) {
+            *(f.kind == 3 ? &m.aspas : &m.keys) += 1;
             continue;
         }
         *(f.action == 2 ? &m.withdrawn : &m.announced) += 1;
-        p = put_payload(p, &f, f.action != 2);
+        p = put_payload(p, version, &f, f.action != 2);
     }
     taplevung_timing_values t = timing_of(times.refresh, times.retry, times.expire);
-    p = put32(put_header(p, 7, session, 24), serial);
-    p = put32(put32(put32(p, t.refresh), t.retry), t.expire);
+    p = put32(put_header(p, version, 7, session, version == 0 ? 12 : 24), serial);
+    if (version != 0)
+        p = put32(put32(put32(p, t.refresh), t.retry), t.expire);
     m.length = (size_t)(p - to);
     return m;
 }

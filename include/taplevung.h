@@ -39,6 +39,12 @@ extern "C" {
 /* The most queries in one call. A query is six bytes. */
 #define TAPLEVUNG_QUERY_LIMIT 384
 
+/* The version of a router's messages: 0 is RFC 6810, any other number is RFC 8210. */
+enum {
+    TAPLEVUNG_RFC_6810 = 0, /* no router keys; an End of Data of 12 bytes, without times */
+    TAPLEVUNG_RFC_8210 = 1
+};
+
 /* What `kind` of an answer says. Where two names have one number, the call tells them apart. */
 enum {
     TAPLEVUNG_REFUSED = 0,   /* any call: see number, argument and offset */
@@ -286,22 +292,23 @@ taplevung_notice taplevung_notify(taplevung_state state);
 bool taplevung_ready(taplevung_state state);
 
 /*
- * Writes the messages of RFC 8210, version 1, that answer the Serial Query of a router at
- * `serial` of `session`.
+ * Writes the messages of a version that answer the Serial Query of a router at `serial` of
+ * `session`.
  *
  * TAPLEVUNG_DATA: a Cache Response, an IPv4 Prefix, IPv6 Prefix or Router Key message for
  * each item of the delta that taplevung_query writes, in its order, and an End of Data
- * with the times that taplevung_timing makes of `times`. `session` and serial are those
- * that the messages name; length is that of all of them, announced and withdrawn count
- * the messages between the two; the RFC has none for ASPAs, which are skipped and counted.
+ * with the times that taplevung_timing makes of `times`; in version 0 without times.
+ * `session` and serial are those that the messages name; length is that of all of them,
+ * announced and withdrawn count the messages between the two. Neither RFC has one for
+ * ASPAs, and RFC 6810 has none for router keys: these are skipped and counted.
  * TAPLEVUNG_CACHE_RESET: that message alone was written, where taplevung_query refuses
  * with 6. TAPLEVUNG_ERROR_REPORT: one of code 0 that encloses the Serial Query, without
  * text, where it refuses with 5. Of both only number and length are not 0.
  * Refusals: 7, then 4, whatever it is that does not fit.
  */
 taplevung_sent taplevung_query_messages(
-    taplevung_state state, taplevung_session session, taplevung_serial serial,
-    taplevung_timing_values times,
+    uint32_t version, taplevung_state state,
+    taplevung_session session, taplevung_serial serial, taplevung_timing_values times,
     const uint8_t *snapshots, size_t snapshots_length,
     const uint8_t *deltas, size_t deltas_length,
     uint8_t *out, size_t out_length);
@@ -314,7 +321,7 @@ taplevung_sent taplevung_query_messages(
  * TAPLEVUNG_DATA: as above; withdrawn is 0. Refusals: 7, then 4.
  */
 taplevung_sent taplevung_full_messages(
-    taplevung_state state, taplevung_timing_values times,
+    uint32_t version, taplevung_state state, taplevung_timing_values times,
     const uint8_t *snapshots, size_t snapshots_length,
     const uint8_t *deltas, size_t deltas_length,
     uint8_t *out, size_t out_length);
@@ -324,7 +331,8 @@ taplevung_sent taplevung_full_messages(
  *
  * TAPLEVUNG_DATA: `session` and serial are those that it names; length is 12. Refusals: 4.
  */
-taplevung_sent taplevung_notify_message(taplevung_state state, uint8_t *out, size_t out_length);
+taplevung_sent taplevung_notify_message(
+    uint32_t version, taplevung_state state, uint8_t *out, size_t out_length);
 
 /*
  * Brings each interval into the range of RFC 8210: refresh 1 to 86,400, retry 1 to 7,200,
@@ -334,22 +342,24 @@ taplevung_sent taplevung_notify_message(taplevung_state state, uint8_t *out, siz
 taplevung_timing_values taplevung_timing(uint32_t refresh, uint32_t retry, uint32_t expire);
 
 /*
- * Judges the answer of another cache: the messages of RFC 8210 (version 1) from a Cache
- * Response to an End of Data, taken one after another by one who holds the snapshot. They
- * may come in any order, and a record may be announced and withdrawn again. Writes the
- * snapshot that they leave; the ASPAs of the one given stay as they are.
+ * Judges the answer of another cache: the messages of a version from a Cache Response to an
+ * End of Data, taken one after another by one who holds the snapshot. They may come in any
+ * order, and a record may be announced and withdrawn again. Writes the snapshot that they
+ * leave; the ASPAs of the one given stay as they are, in version 0 its router keys too.
  *
  * TAPLEVUNG_DONE: serial, `session` and `timing` are those of the End of Data, the three
- * intervals as they stand; length is that of the snapshot written; announced and withdrawn
+ * intervals as they stand, in version 0 zeros; length is that of the snapshot written; announced and withdrawn
  * are the messages with flags 1 and 0. Refused: `session` and `timing` are 0.
  * Refusals: 10, then 1, 12 and 2 (argument 1, the snapshot), then the first faulty message
  * (argument 2), by 13 before 14 and 15, then 4. No. 13 is a message cut short; a version
- * other than 1; a type that may not stand there, or that has another length; flags other
+ * other than the one asked for; a type that may not stand there (a Router Key in version 0
+ * too), or that has another length; flags other
  * than 0 and 1; a record that would be a bad body in a snapshot; an End of Data of another
  * session than the Cache Response's; no End of Data (the offset is then the end); bytes
  * behind it (the first of them). Fields that the RFC calls zero are not looked at.
  */
 taplevung_judged taplevung_judge(
+    uint32_t version,
     const uint8_t *snapshot, size_t snapshot_length,
     const uint8_t *messages, size_t messages_length,
     uint8_t *out, size_t out_length);

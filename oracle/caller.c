@@ -24,7 +24,7 @@ enum entry {
 };
 
 struct request {
-    uint64_t entry, numbers[5];
+    uint64_t entry, version, numbers[5];
     uint64_t lengths[3]; /* of the slices, and how much of each is sent */
     uint64_t sent[3];
     uint64_t list; /* the length of the queries, which come behind the slices */
@@ -106,6 +106,7 @@ static void call(const struct request *q, uint8_t *const s[3], struct reply *r)
 {
     const size_t *n = q->lengths;
     const uint64_t *given = q->numbers;
+    uint32_t version = (uint32_t)q->version;
     int asked = q->entry == QUERY || q->entry == QUERY_MESSAGES;
     taplevung_serial serial = {(uint32_t)given[asked]}, start = {(uint32_t)given[2]};
     taplevung_session session = {(uint16_t)given[0]};
@@ -167,17 +168,18 @@ static void call(const struct request *q, uint8_t *const s[3], struct reply *r)
     case FULL_MESSAGES:
     case NOTIFY_MESSAGE:
         sent = q->entry == QUERY_MESSAGES
-                   ? taplevung_query_messages(q->state, session, serial, times, s[0], n[0], s[1], n[1], s[2], n[2])
+                   ? taplevung_query_messages(
+                         version, q->state, session, serial, times, s[0], n[0], s[1], n[1], s[2], n[2])
                : q->entry == FULL_MESSAGES
-                   ? taplevung_full_messages(q->state, times, s[0], n[0], s[1], n[1], s[2], n[2])
-                   : taplevung_notify_message(q->state, s[2], n[2]);
+                   ? taplevung_full_messages(version, q->state, times, s[0], n[0], s[1], n[1], s[2], n[2])
+                   : taplevung_notify_message(version, q->state, s[2], n[2]);
         r->answer = sent.answer;
         r->numbers[0] = sent.session.value;
         r->numbers[1] = sent.router_keys_skipped;
         r->numbers[2] = sent.aspas_skipped;
         break;
     case JUDGE: {
-        taplevung_judged j = taplevung_judge(s[0], n[0], s[1], n[1], s[2], n[2]);
+        taplevung_judged j = taplevung_judge(version, s[0], n[0], s[1], n[1], s[2], n[2]);
         r->answer = j.answer;
         r->state.session = j.session.value;
         r->numbers[0] = j.timing.refresh;

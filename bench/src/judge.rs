@@ -28,15 +28,15 @@ impl Input {
         let mut snapshot = Vec::new();
         held.iter().for_each(|key| put(&mut snapshot, key[0], &[&key[1..]]));
         let mut set: BTreeSet<&Key> = held.iter().collect();
-        let mut messages = cache_response(7);
+        let mut messages = cache_response(1, 7);
         for key in named {
             let flags = u8::from(!set.remove(key));
             if flags == 1 {
                 set.insert(key);
             }
-            messages.extend(payload(flags, key));
+            messages.extend(payload(1, flags, key));
         }
-        messages.extend(end_of_data(7, 1, [3600, 600, 7200]));
+        messages.extend(end_of_data(1, 7, 1, [3600, 600, 7200]));
         Input { snapshot, messages, count: named.len() }
     }
 }
@@ -238,7 +238,7 @@ fn race(name: &str, input: &Input, rounds: u32) -> Best {
             break;
         }
         let start = Instant::now();
-        let judged = raw::judge(&input.snapshot, &input.messages, &mut out);
+        let judged = raw::judge(1, &input.snapshot, &input.messages, &mut out);
         best.library = best.library.min(start.elapsed().as_secs_f64());
         assert_eq!((judged.answer.kind, judged.answer.number), (1, 0), "{name}");
         let start = Instant::now();

@@ -84,7 +84,7 @@ fn full(data: Data, rounds: u32) -> Times {
     let snapshot = &held.snapshots[..held.state.snapshot as usize];
     let items = parse(snapshot);
     let (mut out, mut plain) = (vec![0; 2 * snapshot.len()], Vec::with_capacity(2 * snapshot.len()));
-    let sent = raw::full_messages(held.state, TIMES, snapshot, &[], &mut out);
+    let sent = raw::full_messages(1, held.state, TIMES, snapshot, &[], &mut out);
     encode(&items, 7, 0, &mut plain);
     assert!(out[..sent.answer.length as usize] == plain, "both write the same");
     let (from, mut copy) = (plain.clone(), vec![0; plain.len()]);
@@ -92,7 +92,7 @@ fn full(data: Data, rounds: u32) -> Times {
         fields: items.len(),
         contenders: [
             just(|| {
-                assert_eq!(raw::full_messages(held.state, TIMES, snapshot, &[], &mut out).answer.kind, 1)
+                assert_eq!(raw::full_messages(1, held.state, TIMES, snapshot, &[], &mut out).answer.kind, 1)
             }),
             just(|| assert_eq!(raw::full(held.state, snapshot, &[]).answer.kind, 1)),
             just(|| {
@@ -121,7 +121,7 @@ fn queries(data: Data, distances: &[u32], rounds: u32) -> Vec<Times> {
         let serial = Serial(held.state.newest.0 - d);
         let [mut first, mut second] = [(); 2].map(|_| vec![0; 2 * length + 32]);
         let messages = |out: &mut [u8]| {
-            let sent = raw::query_messages(held.state, Session(7), serial, TIMES, snapshots, deltas, out);
+            let sent = raw::query_messages(1, held.state, Session(7), serial, TIMES, snapshots, deltas, out);
             assert_eq!(sent.answer.kind, 1);
         };
         let query = |out: &mut [u8]| {

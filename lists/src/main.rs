@@ -118,7 +118,7 @@ fn written(call: &Call, i: usize) -> bool {
 
 /// The call itself, one arm for each.
 fn make(call: &Call, [a, b, c]: [&mut [u8]; 3], left: &mut Outcome) {
-    let state = given(&call.state);
+    let (version, state) = (call.version, given(&call.state));
     let [first, second, third, ..] = call.numbers.map(|n| n as u32);
     match call.entry {
         Entry::Construct => left.answer = answer(raw::construct(a, b, Serial(first), c)),
@@ -141,12 +141,12 @@ fn make(call: &Call, [a, b, c]: [&mut [u8]; 3], left: &mut Outcome) {
         }
         Entry::QueryMessages => {
             let (session, serial) = (Session(first as u16), Serial(second));
-            sent(raw::query_messages(state, session, serial, times(call, 2), a, b, c), left);
+            sent(raw::query_messages(version, state, session, serial, times(call, 2), a, b, c), left);
         }
-        Entry::FullMessages => sent(raw::full_messages(state, times(call, 0), a, b, c), left),
-        Entry::NotifyMessage => sent(raw::notify_message(state, c), left),
+        Entry::FullMessages => sent(raw::full_messages(version, state, times(call, 0), a, b, c), left),
+        Entry::NotifyMessage => sent(raw::notify_message(version, state, c), left),
         Entry::Judge => {
-            let raw::Judged { answer: said, session, timing: times } = raw::judge(a, b, c);
+            let raw::Judged { answer: said, session, timing: times } = raw::judge(version, a, b, c);
             left.answer = answer(said);
             left.state.session = session.0.into();
             left.numbers = [times.refresh, times.retry, times.expire].map(u64::from);

@@ -8,33 +8,35 @@ pub type Messages = Vec<Vec<u8>>;
 
 //------------ Writing -------------------------------------------------------
 
-/// A message of a type, with two bytes that the type decides on.
-fn message(kind: u8, two: u16, body: &[&[u8]]) -> Vec<u8> {
+/// A message of a version and a type, with two bytes that the type decides on.
+fn message(version: u8, kind: u8, two: u16, body: &[&[u8]]) -> Vec<u8> {
     let body = body.concat();
-    let mut out = vec![1, kind];
+    let mut out = vec![version, kind];
     out.extend(two.to_be_bytes());
     out.extend((8 + body.len() as u32).to_be_bytes());
     out.extend(body);
     out
 }
 
-pub fn cache_response(session: u16) -> Vec<u8> {
-    message(3, session, &[])
+pub fn cache_response(version: u8, session: u16) -> Vec<u8> {
+    message(version, 3, session, &[])
 }
 
 /// Announces (flags 1) or withdraws (0) an origin or a router key.
-pub fn payload(flags: u8, key: &Key) -> Vec<u8> {
+pub fn payload(version: u8, flags: u8, key: &Key) -> Vec<u8> {
     match (key[0], key[1]) {
         (1, family) => {
             let address = if family == 4 { &key[2..6] } else { &key[2..18] };
-            message(family, 0, &[&[flags, key[18], key[19], 0], address, &key[20..]])
+            message(version, family, 0, &[&[flags, key[18], key[19], 0], address, &key[20..]])
         }
-        _ => message(9, u16::from(flags) << 8, &[&key[1..]]),
+        _ => message(version, 9, u16::from(flags) << 8, &[&key[1..]]),
     }
 }
 
-pub fn end_of_data(session: u16, serial: u32, times: [u32; 3]) -> Vec<u8> {
-    message(7, session, &[&serial.to_be_bytes(), &times.map(u32::to_be_bytes).concat()])
+/// Version 0 has no times.
+pub fn end_of_data(version: u8, session: u16, serial: u32, times: [u32; 3]) -> Vec<u8> {
+    let times = if version == 0 { vec![] } else { times.map(u32::to_be_bytes).concat() };
+    message(version, 7, session, &[&serial.to_be_bytes(), &times])
 }
 
 /// The messages of any bytes. What is no whole message is one piece, the last.
@@ -53,10 +55,11 @@ pub fn pieces(mut bytes: &[u8]) -> Messages {
 //------------ Good answers --------------------------------------------------
 
 /// An answer that one who holds `held` must accept. Records come in any order, and some go and come again.
-pub fn good(rng: &mut Rng, universe: &Universe, held: &Snapshot) -> Messages {
-    let (session, keys) = (rng.next() as u16, universe.records());
+pub fn good(rng: &mut Rng, version: u8, universe: &Universe, held: &Snapshot) -> Messages {
+    let (session, mut keys) = (rng.next() as u16, universe.records());
+    keys.retain(|key| version == 1 || key[0] == 1);
     let mut set = held.clone();
-    let mut out = vec![cache_response(session)];
+    let mut out = vec![cache_response(version, session)];
     let most = if keys.is_empty() { 1 } else { *rng.pick(&[4, 9, 30]) };
     for _ in 0..rng.below(most) {
         let key = *rng.pick(&keys);
@@ -64,9 +67,9 @@ pub fn good(rng: &mut Rng, universe: &Universe, held: &Snapshot) -> Messages {
         if flags == 1 {
             set.insert(key.clone(), vec![]);
         }
-        out.push(payload(flags, key));
+        out.push(payload(version, flags, key));
     }
-    out.push(end_of_data(session, serial(rng), [(); 3].map(|_| rng.next() as u32)));
+    out.push(end_of_data(version, session, serial(rng), [(); 3].map(|_| rng.next() as u32)));
     if rng.one_in(4) {
         fill_zeros(rng, &mut out);
     }
@@ -75,7 +78,7 @@ pub fn good(rng: &mut Rng, universe: &Universe, held: &Snapshot) -> Messages {
 
 /// An answer of so many messages, and what the one who asked held. Records are named once or a few times, in ascending order
 /// (0), in descending (1), in runs (2) or in any.
-pub fn many(rng: &mut Rng, count: usize, order: usize) -> (Snapshot, Messages) {
+pub fn many(rng: &mut Rng, version: u8, count: usize, order: usize) -> (Snapshot, Messages) {
     let mut number = 0u32;
     let mut record = |_| {
         number += rng.below(2) as u32;
@@ -90,14 +93,14 @@ pub fn many(rng: &mut Rng, count: usize, order: usize) -> (Snapshot, Messages) {
     }
     let held: Snapshot = keys.iter().filter(|key| key[4] % 3 == 0).map(|key| (key.clone(), vec![])).collect();
     let mut set = held.clone();
-    let mut out = vec![cache_response(7)];
+    let mut out = vec![cache_response(version, 7)];
     for key in keys {
-        out.push(payload(u8::from(!set.contains_key(&key)), &key));
+        out.push(payload(version, u8::from(!set.contains_key(&key)), &key));
         if set.remove(&key).is_none() {
             set.insert(key, vec![]);
         }
     }
-    out.push(end_of_data(7, 1, [3600, 600, 7200]));
+    out.push(end_of_data(version, 7, 1, [3600, 600, 7200]));
     (held, out)
 }
 
@@ -174,7 +177,12 @@ pub const DAMAGES: &[(&str, Damage)] = &[
             _ => {}
         }
     }),
-    ("a message's version", |rng, messages| some(rng, messages)[0] = *rng.pick(&[0, 2, 3, 255])),
+    ("a message's version", |rng, messages| {
+        let other = *rng.pick(&[0, 2, 3, 255]);
+        let message = some(rng, messages);
+        // 0 stands for the other of the two
+        message[0] = if other == 0 { message[0] ^ 1 } else { other };
+    }),
     ("a message's type", |rng, messages| {
         some(rng, messages)[1] = *rng.pick(&[0, 1, 2, 3, 4, 5, 6, 7, 8, 9, 10, 11, 255]);
     }),
@@ -225,15 +233,15 @@ pub const DAMAGES: &[(&str, Damage)] = &[
         messages[at][2 + bit / 8] ^= 1 << (bit % 8);
     }),
     ("a message that may not stand there", |rng, messages| {
-        let session = u16::from_be_bytes([messages[0][2], messages[0][3]]);
+        let (version, session) = (messages[0][0], u16::from_be_bytes([messages[0][2], messages[0][3]]));
         let other = match rng.below(7) {
-            0 => message(0, session, &[&[0; 4]]),
-            1 => message(1, session, &[&[0; 4]]),
-            2 => message(2, 0, &[]),
-            3 => cache_response(session),
-            4 => message(8, 0, &[]),
-            5 => message(10, 2, &[&[0; 8]]),
-            _ => end_of_data(session, 0, [1; 3]),
+            0 => message(version, 0, session, &[&[0; 4]]),
+            1 => message(version, 1, session, &[&[0; 4]]),
+            2 => message(version, 2, 0, &[]),
+            3 => cache_response(version, session),
+            4 => message(version, 8, 0, &[]),
+            5 => message(version, 10, 2, &[&[0; 8]]),
+            _ => end_of_data(version, session, 0, [1; 3]),
         };
         messages.insert(rng.below(messages.len() + 1), other);
     }),
@@ -250,10 +258,24 @@ pub const DAMAGES: &[(&str, Damage)] = &[
     }),
 ];
 
+/// What version 0 has not, put into an answer of it.
+pub const TOO_NEW: &[(&str, Damage)] = &[
+    ("a router key in version 0", |rng, messages| {
+        let key = message(0, 9, 256 * rng.below(2) as u16, &[&[5; 30]]);
+        messages.insert(1 + rng.below(messages.len()), key);
+    }),
+    ("an End of Data with times in version 0", |rng, messages| {
+        let end = messages.last_mut().expect("an answer has messages");
+        end.resize(24, 1 + rng.below(9) as u8);
+        end[7] = 24;
+    }),
+];
+
 /// Damages an answer once, or at times twice, and says how.
 pub fn damage(rng: &mut Rng, messages: &Messages) -> (&'static str, Vec<u8>) {
     let mut out = messages.clone();
-    let (name, first) = rng.pick(DAMAGES);
+    let old = messages[0][0] == 0 && rng.one_in(10);
+    let (name, first) = rng.pick(if old { TOO_NEW } else { DAMAGES });
     first(rng, &mut out);
     if rng.one_in(5) {
         out = pieces(&out.concat());

@@ -74,6 +74,8 @@ pub struct Reply {
 #[derive(Clone)]
 pub struct Call {
     pub entry: Entry,
+    /// Of messages and judge: 0 is RFC 6810, any other number RFC 8210.
+    pub version: u32,
     pub state: State,
     pub numbers: [u64; 5],
     pub bytes: [Vec<u8>; 3],
@@ -98,7 +100,7 @@ impl Call {
     fn new<const N: usize>(entry: Entry, state: State, given: [u64; N], bytes: [Vec<u8>; 3]) -> Self {
         let mut numbers = [0; 5];
         numbers[..N].copy_from_slice(&given);
-        Call { entry, state, numbers, bytes, list: vec![] }
+        Call { entry, version: 0, state, numbers, bytes, list: vec![] }
     }
     pub fn construct(old: Vec<u8>, new: Vec<u8>, serial: u32, out: Vec<u8>) -> Self {
         Self::new(Entry::Construct, State::ZERO, [serial.into()], [old, new, out])
@@ -147,21 +149,23 @@ impl Call {
         )
     }
     /// The messages that answer what [`Call::query`] asks, with these times: refresh, retry, expire.
-    pub fn query_messages(query: Call, times: [u32; 3]) -> Self {
+    pub fn query_messages(version: u32, query: Call, times: [u32; 3]) -> Self {
         let [session, serial, ..] = query.numbers;
         let [refresh, retry, expire] = times.map(u64::from);
-        Self::new(Entry::QueryMessages, query.state, [session, serial, refresh, retry, expire], query.bytes)
+        let numbers = [session, serial, refresh, retry, expire];
+        Call { version, ..Self::new(Entry::QueryMessages, query.state, numbers, query.bytes) }
     }
     /// Those that answer what [`Call::full`] asks.
-    pub fn full_messages(full: Call, times: [u32; 3], out: Vec<u8>) -> Self {
+    pub fn full_messages(version: u32, full: Call, times: [u32; 3], out: Vec<u8>) -> Self {
         let [snapshots, deltas, _] = full.bytes;
-        Self::new(Entry::FullMessages, full.state, times.map(u64::from), [snapshots, deltas, out])
+        let bytes = [snapshots, deltas, out];
+        Call { version, ..Self::new(Entry::FullMessages, full.state, times.map(u64::from), bytes) }
     }
-    pub fn notify_message(state: State, out: Vec<u8>) -> Self {
-        Self::new(Entry::NotifyMessage, state, [], [vec![], vec![], out])
+    pub fn notify_message(version: u32, state: State, out: Vec<u8>) -> Self {
+        Call { version, ..Self::new(Entry::NotifyMessage, state, [], [vec![], vec![], out]) }
     }
-    pub fn judge(snapshot: Vec<u8>, messages: Vec<u8>, out: Vec<u8>) -> Self {
-        Self::new(Entry::Judge, State::ZERO, [], [snapshot, messages, out])
+    pub fn judge(version: u32, snapshot: Vec<u8>, messages: Vec<u8>, out: Vec<u8>) -> Self {
+        Call { version, ..Self::new(Entry::Judge, State::ZERO, [], [snapshot, messages, out]) }
     }
 
     /// Which slices are the snapshot store and the delta store.
@@ -209,7 +213,7 @@ impl fmt::Debug for State {
 
 impl fmt::Display for Call {
     fn fmt(&self, f: &mut fmt::Formatter<'_>) -> fmt::Result {
-        writeln!(f, "  {:?}, numbers {:?}", self.entry, self.numbers)?;
+        writeln!(f, "  {:?}, version {}, numbers {:?}", self.entry, self.version, self.numbers)?;
         if self.state != State::ZERO {
             writeln!(f, "  state: {:?}", self.state)?;
         }

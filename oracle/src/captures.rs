@@ -5,6 +5,7 @@ use crate::script::unpack;
 
 pub struct Captured {
     pub name: &'static str,
+    pub version: u8,
     /// The snapshot that the one who asked held.
     pub base: Vec<u8>,
     pub answer: Vec<u8>,
@@ -26,7 +27,8 @@ pub fn all() -> Vec<Captured> {
             "accepted" => Ok(set(which)),
             number => Err((number.parse().expect("a number"), which.parse().expect("an offset"))),
         };
-        Captured { name, base: set(base), answer: unpack(answer), verdict }
+        let answer = unpack(answer);
+        Captured { name, version: answer[0], base: set(base), answer, verdict }
     });
     captured.collect()
 }

@@ -1,5 +1,5 @@
-//! Request E7 as a plain fold, written from document 02 and RFC 8210: the messages of one answer, taken one after another by
-//! one who holds a snapshot.
+//! Requests E7 and E13 as a plain fold, written from document 02, RFC 8210 (version 1) and RFC 6810 (version 0): the messages
+//! of one answer, taken one after another by one who holds a snapshot.
 use crate::model::{good_body, Form, Key, Refused, Snapshot};
 
 /// An answer that is accepted: its End of Data, how many messages announce and withdraw, and what they leave.
@@ -21,23 +21,31 @@ struct Message<'a> {
 
 /// What was left once the messages were taken; or the first that is faulty (13), withdraws an absent record (14) or
 /// announces a present one (15).
-pub fn judge(mut set: Snapshot, bytes: &[u8]) -> Result<Judged, Refused> {
+pub fn judge(version: u8, mut set: Snapshot, bytes: &[u8]) -> Result<Judged, Refused> {
     let refuse = |number, at| Err(Refused(number, 2, at));
-    let Some(Message { kind: 3, two: session, body: [] }) = message(bytes) else { return refuse(13, 0) };
+    let Some(Message { kind: 3, two: session, body: [] }) = message(version, bytes) else {
+        return refuse(13, 0);
+    };
     let (mut at, mut announced, mut withdrawn) = (8, 0, 0);
     loop {
-        let Some(Message { kind, two, body }) = message(&bytes[at..]) else { return refuse(13, at) };
+        let Some(Message { kind, two, body }) = message(version, &bytes[at..]) else {
+            return refuse(13, at);
+        };
         let behind = at + 8 + body.len();
         if kind == 7 {
-            if body.len() != 16 || two != session {
+            if body.len() != [4, 16][usize::from(version)] || two != session {
                 return refuse(13, at);
             }
             if behind < bytes.len() {
                 return refuse(13, behind);
             }
-            let [serial, times @ ..] = [0, 4, 8, 12].map(|i| number(&body[i..]));
+            let serial = number(body);
+            let times = if version == 0 { [0; 3] } else { [4, 8, 12].map(|i| number(&body[i..])) };
             let session = u16::from_be_bytes(session);
             return Ok(Judged { made: set, session, serial, times, announced, withdrawn });
+        }
+        if version == 0 && kind == 9 {
+            return refuse(13, at);
         }
         let Some((flags, key)) = record(kind, two, body) else { return refuse(13, at) };
         match (flags, set.contains_key(&key)) {
@@ -57,9 +65,12 @@ pub fn judge(mut set: Snapshot, bytes: &[u8]) -> Result<Judged, Refused> {
     }
 }
 
-/// The message of version 1 at the front of bytes, if a whole one is there.
-fn message(bytes: &[u8]) -> Option<Message<'_>> {
-    let (&[1, kind, a, b, ref length @ ..], rest) = bytes.split_first_chunk::<8>()? else { return None };
+/// The message of a version at the front of bytes, if a whole one is there.
+fn message(version: u8, bytes: &[u8]) -> Option<Message<'_>> {
+    let (&[said, kind, a, b, ref length @ ..], rest) = bytes.split_first_chunk::<8>()?;
+    if said != version {
+        return None;
+    }
     let body = (u32::from_be_bytes(*length) as usize).checked_sub(8)?;
     Some(Message { kind, two: [a, b], body: rest.get(..body)? })
 }

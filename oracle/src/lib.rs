@@ -1,6 +1,6 @@
 //! The proved library against document 01 and against the Rust that it ports.
 //!
-//! - [`model`] is document 01, written from its words, [`message`] the router messages of RFC 8210, [`judge`] request E7.
+//! - [`model`] is document 01, written from its words, [`message`] the router messages of RFC 6810 and 8210, [`judge`] request E7.
 //! - [`rust`] is Routinator's own code, unchanged, over stand-ins for the crates it uses. It is there
 //!   only where its source is (see `build.rs`).
 //! - [`port`] is the library, in a process of its own.

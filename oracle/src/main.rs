@@ -14,7 +14,7 @@ use oracle::call::{Answer, Call, Entry, Outcome, State};
 use oracle::captures::{self, Captured};
 use oracle::damage::{damage, ill_form, DAMAGES};
 use oracle::field::put;
-use oracle::make::{output, room, serial, times, Universe, World};
+use oracle::make::{output, room, serial, times, version, Universe, World};
 use oracle::message::Router;
 use oracle::model::{self, Change, Delta, Form, Snapshot, DELTA_LIMIT, SNAPSHOT_LIMIT};
 use oracle::port::Port;
@@ -409,15 +409,16 @@ impl Run {
     fn routers(&mut self, rng: &mut Rng, world: &World, carried: &Carried, rust: &RustHistory) -> Checked {
         self.kind = "messages";
         let State { session, newest, n, .. } = world.state;
-        let (session, asked) = (session as u16, times(rng));
+        let (session, asked, version) = (session as u16, times(rng), u8::from(!rng.one_in(3)));
         let (refresh, retry, expire) = model::timing(asked[0], asked[1], asked[2]);
-        let held = Router::holding(&world.now()).held;
-        let now = Router { held, session, serial: newest, times: [refresh, retry, expire] };
-        self.reads(&room(rng, world.full_messages(asked)), &Snapshot::new(), &now, None)?;
+        let told = if version == 0 { [0; 3] } else { [refresh, retry, expire] };
+        let now = Router { session, serial: newest, times: told, ..Router::holding(version, &world.now()) };
+        let version = u32::from(version);
+        self.reads(&room(rng, world.full_messages(version, asked)), &Snapshot::new(), &now, None)?;
         for d in [0, 1, rng.below(n as usize + 2) as u32, n, n + 1] {
             let serial = newest.wrapping_sub(d);
             let held = carried.get(&serial).cloned().unwrap_or_default();
-            let call = room(rng, world.query_messages(session, serial, asked));
+            let call = room(rng, world.query_messages(version, session, serial, asked));
             self.reads(&call, &held, &now, rust.shown(serial))?;
         }
         self.kind = "history";
@@ -431,13 +432,18 @@ impl Run {
         if outcome.answer.kind != 1 {
             return Ok(());
         }
-        let mut router = Router::holding(held);
+        let mut router = Router::holding(now.version, held);
         let read = router.take(&answered(outcome));
         if read.is_err() || router != *now {
             return Err(format!("DIFFERENCE (messages): {read:?}, and the router is {router:?}\n{call}"));
         }
         self.read += 1;
-        self.with_rust(shown.map(|shown| read == Ok(shown)), call)
+        // the Rust shows router keys, which version 0 leaves out
+        let told = |mut shown: Shown| {
+            shown.retain(|(_, key)| now.version == 1 || key[0] != 2);
+            shown
+        };
+        self.with_rust(shown.map(|shown| read == Ok(told(shown))), call)
     }
 
     /// The messages of any good history, at any session and room.
@@ -448,8 +454,10 @@ impl Run {
         let session = if rng.one_in(4) { rng.next() } else { world.state.session } as u16;
         let behind = rng.below(world.state.n as usize + 3) as u32;
         let times = times(rng);
-        let query = world.query_messages(session, world.state.newest.wrapping_sub(behind), times);
-        for call in [query, world.full_messages(times), Call::notify_message(world.state, vec![])] {
+        let version = version(rng);
+        let query = world.query_messages(version, session, world.state.newest.wrapping_sub(behind), times);
+        let full = world.full_messages(version, times);
+        for call in [query, full, Call::notify_message(version, world.state, vec![])] {
             self.compare(&room(rng, call))?;
         }
         Ok(())
@@ -465,13 +473,17 @@ impl Run {
             world = World::new(&mut rng, &universe);
         }
         let (session, newest) = (world.state.session as u16, world.state.newest);
-        for call in [
-            world.query_messages(session, newest.wrapping_sub(2), [3600, 600, 7200]),
-            world.query_messages(session, newest.wrapping_add(1), [3600, 600, 7200]),
-            world.query_messages(!session, newest, [3600, 600, 7200]),
-            world.full_messages([3600, 600, 7200]),
-            Call::notify_message(world.state, vec![]),
-        ] {
+        let times = [3600, 600, 7200];
+        let calls = [0, 1].map(|version| {
+            [
+                world.query_messages(version, session, newest.wrapping_sub(2), times),
+                world.query_messages(version, session, newest.wrapping_add(1), times),
+                world.query_messages(version, !session, newest, times),
+                world.full_messages(version, times),
+                Call::notify_message(version, world.state, vec![]),
+            ]
+        });
+        for call in calls.as_flattened() {
             for room in 0.. {
                 let mut call = call.clone();
                 call.bytes[2] = vec![0xEE; room];
@@ -555,8 +567,8 @@ impl Run {
         let mut query = world.query(session, state.newest.wrapping_sub(behind));
         query.bytes[2] = vec![0xEE; [0, 30, 5000][rng.below(3)]];
         let messages = match rng.below(2) {
-            0 => Call::query_messages(query.clone(), times(rng)),
-            _ => Call::full_messages(world.full(), times(rng), query.bytes[2].clone()),
+            0 => Call::query_messages(version(rng), query.clone(), times(rng)),
+            _ => Call::full_messages(version(rng), world.full(), times(rng), query.bytes[2].clone()),
         };
         let all = world.query_all(queries(rng, &world), vec![0xEE; rng.below(300)]);
         for call in [world.update(new), query, all, world.full(), messages] {
@@ -590,7 +602,7 @@ impl Run {
         };
         self.compare(&Call::notify(state))?;
         self.compare(&Call::ready(state))?;
-        self.compare(&Call::notify_message(state, vec![7; 10 + rng.below(4)]))?;
+        self.compare(&Call::notify_message(version(rng), state, vec![7; 10 + rng.below(4)]))?;
         let near = |rng: &mut Rng| {
             let edge = *rng.pick(&[0, 1, 600, 7_200, 86_400, 172_800, u32::MAX]);
             edge.wrapping_add(rng.below(3) as u32).wrapping_sub(1)
@@ -622,7 +634,7 @@ impl Run {
             self.compare(&Call::construct(first(snap), over(snap), 0, out.clone()))?;
             self.compare(&Call::merge(first(delta), over(delta), 0, out.clone()))?;
             self.compare(&Call::apply(first(snap), over(delta), out.clone()))?;
-            self.compare(&Call::judge(first(snap), bad.clone(), out.clone()))?;
+            self.compare(&Call::judge(1, first(snap), bad.clone(), out.clone()))?;
             // stores: 10 at creation, behind 8; 7 afterwards
             self.compare(&Call::create(9, 0, 5, first(snap), over(delta)))?;
             self.compare(&Call::create(9, 1, 5, first(snap), over(delta)))?;
@@ -644,11 +656,12 @@ impl Run {
         self.compare(&Call::apply(old.clone(), made.clone(), vec![0; snap]))?;
         // the judge's result may be longer than a snapshot
         let universe = Universe::fixed();
-        let announce = |key| answers::payload(1, key);
+        let announce = |key| answers::payload(1, 1, key);
         let said: Vec<Vec<u8>> = universe.records().into_iter().map(announce).collect();
-        let answer = [answers::cache_response(9), said.concat(), answers::end_of_data(9, 5, [1; 3])].concat();
-        self.compare(&Call::judge(old.clone(), answer.clone(), vec![0; snap + 1000]))?;
-        self.compare(&Call::judge(old.clone(), answer, vec![0; snap]))?;
+        let (start, end) = (answers::cache_response(1, 9), answers::end_of_data(1, 9, 5, [1; 3]));
+        let answer = [start, said.concat(), end].concat();
+        self.compare(&Call::judge(1, old.clone(), answer.clone(), vec![0; snap + 1000]))?;
+        self.compare(&Call::judge(1, old.clone(), answer, vec![0; snap]))?;
         let (withdraw, announce) = (longest(0x32, delta, 5000), longest(0x31, delta, 5001));
         self.compare(&Call::merge(withdraw, announce, 5, vec![0; 2 * delta]))?;
         let first = self.compare(&Call::update(inactive, old, vec![0; snap], vec![0; made.len()]))?;
@@ -663,7 +676,7 @@ impl Run {
         let length = origins.len() as u32;
         let full = Call::full(State { active: 1, snapshot: length, ..inactive }, origins, none);
         for room in [32 * count + 32, 32 * count + 31] {
-            self.compare(&Call::full_messages(full.clone(), [0, 0, 0], vec![0; room]))?;
+            self.compare(&Call::full_messages(1, full.clone(), [0, 0, 0], vec![0; room]))?;
         }
         Ok(())
     }
@@ -687,9 +700,11 @@ impl Run {
 
     /// What was recorded of an answer, in just enough room and one byte short; and each damage of one place.
     fn captured(&mut self, captured: &Captured) -> Checked {
-        let Captured { name, base, answer, verdict } = captured;
+        let Captured { name, version, base, answer, verdict } = captured;
         let needed = verdict.as_ref().map_or(0, Vec::len);
-        let call = |answer: &[u8], room| Call::judge(base.clone(), answer.to_vec(), vec![0xEE; room]);
+        let version = u32::from(*version);
+        let call =
+            |answer: &[u8], room| Call::judge(version, base.clone(), answer.to_vec(), vec![0xEE; room]);
         let outcome = self.compare(&call(answer, needed))?;
         let said = match outcome.answer {
             Answer { kind: 1, length, .. } => Ok(outcome.bytes[2][..length as usize].to_vec()),
@@ -711,12 +726,14 @@ impl Run {
         let mut rng = Rng::new(self.seed, JUDGING);
         for round in 0..36 {
             let count = [5999, 6000, 6001].get(round / 6).copied().unwrap_or(6000 + rng.below(9000));
-            let (held, mut messages) = answers::many(&mut rng, count, round % 6);
+            let version = u8::from(round % 5 > 0);
+            let (held, mut messages) = answers::many(&mut rng, version, count, round % 6);
             let held = bytes(&held);
-            self.compare(&room(&mut rng, Call::judge(held.clone(), messages.concat(), vec![])))?;
+            let judge = |messages: Vec<u8>, room| Call::judge(version.into(), held.clone(), messages, room);
+            self.compare(&room(&mut rng, judge(messages.concat(), vec![])))?;
             for flip in [1, 1, 3] {
                 messages[1 + rng.below(count)][8] ^= flip;
-                self.damaged_answer(Call::judge(held.clone(), messages.concat(), vec![0xEE; 30 * count]))?;
+                self.damaged_answer(judge(messages.concat(), vec![0xEE; 30 * count]))?;
             }
         }
         Ok(())
@@ -729,30 +746,35 @@ impl Run {
 
     /// A good answer or a captured one: as it is, in every room from none to more than enough at times, and damaged.
     fn judged(&mut self, rng: &mut Rng, captured: &[Captured]) -> Checked {
-        let (held, messages) = if rng.one_in(4) {
-            let Captured { base, answer, .. } = rng.pick(captured);
-            (base.clone(), answers::pieces(answer))
+        let (said, held, messages) = if rng.one_in(4) {
+            let Captured { version, base, answer, .. } = rng.pick(captured);
+            (*version, base.clone(), answers::pieces(answer))
         } else {
             let universe = Universe::new(rng);
             let held = universe.snapshot(rng);
-            (bytes(&held), answers::good(rng, &universe, &held))
+            let said = u8::from(!rng.one_in(3));
+            (said, bytes(&held), answers::good(rng, said, &universe, &held))
+        };
+        // at times the other version is asked for, which refuses the Cache Response
+        let asked = if rng.one_in(50) { version(rng) } else { said.into() };
+        let judge = |held: &[u8], messages: &[u8], room| {
+            Call::judge(asked, held.to_vec(), messages.to_vec(), vec![0xEE; room])
         };
         let answer = messages.concat();
-        let outcome = self.compare(&room(rng, Call::judge(held.clone(), answer.clone(), vec![])))?;
+        let outcome = self.compare(&room(rng, judge(&held, &answer, 0)))?;
         let long = held.len() + 2 * answer.len();
         if rng.one_in(200) && long < 1000 {
             for length in 0..=outcome.answer.length as usize + 2 {
-                self.compare(&Call::judge(held.clone(), answer.clone(), vec![0xEE; length]))?;
+                self.compare(&judge(&held, &answer, length))?;
             }
-            each_place(&answer)
-                .try_for_each(|bad| self.damaged_answer(Call::judge(held.clone(), bad, vec![0xEE; long])))?;
+            each_place(&answer).try_for_each(|bad| self.damaged_answer(judge(&held, &bad, long)))?;
         }
         for _ in 0..20 {
             let (name, bad) = answers::damage(rng, &messages);
             let spoilt = rng.one_in(40);
             let held = if spoilt { damage(rng, Form::Snapshot, &held).1 } else { held.clone() };
             let room = if rng.one_in(8) { rng.below(60) } else { long };
-            let outcome = self.compare(&Call::judge(held, bad, vec![0xEE; room]))?;
+            let outcome = self.compare(&judge(&held, &bad, room))?;
             self.damaged_answers += 1;
             if matches!(outcome.answer.number, 13..=15) {
                 *self.damages.entry(name).or_default() += 1;
@@ -839,7 +861,8 @@ impl Run {
             "a bad snapshot",
             "a bad delta",
         ];
-        let names = DAMAGES.iter().map(|(name, _)| name).chain(answers::DAMAGES.iter().map(|(name, _)| name));
+        let of_answers = answers::DAMAGES.iter().chain(answers::TOO_NEW).map(|(name, _)| name);
+        let names = DAMAGES.iter().map(|(name, _)| name).chain(of_answers);
         for name in names.chain(ILL) {
             enough(format!("\"{name}\""), self.damages.get(name), 100)?;
         }

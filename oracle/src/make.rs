@@ -233,6 +233,11 @@ pub fn serial(rng: &mut Rng) -> u32 {
     }
 }
 
+/// A version to ask for: 0 is RFC 6810, any other number RFC 8210.
+pub fn version(rng: &mut Rng) -> u32 {
+    *rng.pick(&[0, 0, 0, 1, 1, 2, 256, u32::MAX])
+}
+
 /// Refresh, retry and expire: at their bounds and one off, or as one would set them.
 pub fn times(rng: &mut Rng) -> [u32; 3] {
     const EDGES: [u32; 7] = [0, 1, 600, 7_200, 86_400, 172_800, u32::MAX];
@@ -341,11 +346,11 @@ impl World {
         Call::full(self.state, self.snapshots.clone(), self.deltas.clone())
     }
 
-    pub fn query_messages(&self, session: u16, serial: u32, times: [u32; 3]) -> Call {
-        Call::query_messages(self.query(session, serial), times)
+    pub fn query_messages(&self, version: u32, session: u16, serial: u32, times: [u32; 3]) -> Call {
+        Call::query_messages(version, self.query(session, serial), times)
     }
 
-    pub fn full_messages(&self, times: [u32; 3]) -> Call {
-        Call::full_messages(self.full(), times, vec![])
+    pub fn full_messages(&self, version: u32, times: [u32; 3]) -> Call {
+        Call::full_messages(version, self.full(), times, vec![])
     }
 }

@@ -426,26 +426,26 @@ fn accept(call: &Call, out: &mut Outcome) -> Result<(), Refused> {
             let held = history(state, first, second)?;
             let [session, serial, ..] = call.numbers;
             if session != state.session % 65_536 {
-                return send(&message::error_report(session as u16, serial as u32), 3, 5, out);
+                return send(&message::error_report(version(call), session as u16, serial as u32), 3, 5, out);
             }
             match held.since(state.newest, serial as u32) {
-                Ok(delta) => send_data(&delta, times(call, 2), state, out)?,
-                Err(_) => send(&message::cache_reset(), 2, 6, out)?,
+                Ok(delta) => send_data(version(call), &delta, times(call, 2), state, out)?,
+                Err(_) => send(&message::cache_reset(version(call)), 2, 6, out)?,
             }
         }
         Entry::FullMessages => {
             let held = history(state, first, second)?;
             let all = difference(&Snapshot::new(), &held.now);
-            send_data(&all, times(call, 0), state, out)?;
+            send_data(version(call), &all, times(call, 0), state, out)?;
         }
         Entry::NotifyMessage => {
-            send(&message::serial_notify(state.session as u16, state.newest), 1, 0, out)?;
+            send(&message::serial_notify(version(call), state.session as u16, state.newest), 1, 0, out)?;
             out.answer.serial = state.newest;
             out.numbers[0] = state.session % 65_536;
         }
         Entry::Judge => {
             limits([(first, SNAPSHOT_LIMIT), (b"", 0)])?;
-            let said = judge(snapshot(first, 1)?, second)?;
+            let said = judge(version(call), snapshot(first, 1)?, second)?;
             let made = snapshot_bytes(&said.made);
             lend(&made, &mut out.bytes[2], 4)?;
             let Judged { session, serial, times, announced, withdrawn, .. } = said;
@@ -456,6 +456,11 @@ fn accept(call: &Call, out: &mut Outcome) -> Result<(), Refused> {
         }
     }
     Ok(())
+}
+
+/// The version that messages carry: 0 for RFC 6810, 1 for any other number.
+fn version(call: &Call) -> u8 {
+    u8::from(call.version != 0)
 }
 
 /// The times that stand at `at` among the numbers, as they are told.
@@ -471,12 +476,18 @@ fn send(bytes: &[u8], kind: u32, number: u32, out: &mut Outcome) -> Result<(), R
     Ok(())
 }
 
-fn send_data(delta: &Delta, times: (u32, u32, u32), state: &State, out: &mut Outcome) -> Result<(), Refused> {
-    let written = message::answer(state.session as u16, state.newest, times, delta);
+fn send_data(
+    version: u8,
+    delta: &Delta,
+    times: (u32, u32, u32),
+    state: &State,
+    out: &mut Outcome,
+) -> Result<(), Refused> {
+    let written = message::answer(version, state.session as u16, state.newest, times, delta);
     send(&written.bytes, 1, 0, out)?;
     out.answer.serial = state.newest;
     (out.answer.announced, out.answer.withdrawn) = (written.announced, written.withdrawn);
-    out.numbers = [state.session % 65_536, 0, written.aspas_skipped];
+    out.numbers = [state.session % 65_536, written.router_keys_skipped, written.aspas_skipped];
     Ok(())
 }
 

@@ -46,6 +46,7 @@ impl Port {
         let lengths = call.bytes.each_ref().map(Vec::len);
         self.buffer.clear();
         self.buffer.extend((call.entry as u64).to_le_bytes());
+        self.buffer.extend(u64::from(call.version).to_le_bytes());
         call.numbers.iter().for_each(|x| self.buffer.extend(x.to_le_bytes()));
         lengths.iter().for_each(|x| self.buffer.extend((*x as u64).to_le_bytes()));
         sent.iter().for_each(|b| self.buffer.extend((b.len() as u64).to_le_bytes()));

@@ -141,7 +141,8 @@ impl<F: FnMut(&Call) -> Outcome> Player<F> {
         let answer = match line.0[0] {
             "snapshot" => verdict((self.check)(Form::Snapshot, &line.bytes(1))),
             "delta" => verdict((self.check)(Form::Delta, &line.bytes(1))),
-            "construct" | "merge" | "apply" | "judge" => self.entry(line),
+            "construct" | "merge" | "apply" => self.entry(line),
+            "judge" => self.judge(line),
             "timing" => self.timing(line),
             "create" => self.create(line),
             "hold" => self.hold(line),
@@ -171,15 +172,13 @@ impl<F: FnMut(&Call) -> Outcome> Player<F> {
         format!("{} {}{answer}{after}\n", line.0[0], line.0[1])
     }
 
-    /// construct NAME ROOM SERIAL OLD NEW, merge NAME ROOM SERIAL EARLIER LATER, apply NAME ROOM - SNAPSHOT DELTA,
-    /// judge NAME ROOM - SNAPSHOT MESSAGES
+    /// construct NAME ROOM SERIAL OLD NEW, merge NAME ROOM SERIAL EARLIER LATER, apply NAME ROOM - SNAPSHOT DELTA
     fn entry(&mut self, line: &Line<'_>) -> String {
         let (room, serial) = (line.number(1) as usize, line.u32(2));
         let (first, second, lent) = (line.bytes(3), line.bytes(4), vec![MARK; room]);
         let call = match line.0[0] {
             "construct" => Call::construct(first, second, serial, lent),
             "merge" => Call::merge(first, second, serial, lent),
-            "judge" => Call::judge(first, second, lent),
             _ => Call::apply(first, second, lent),
         };
         let left = (self.run)(&call);
@@ -189,11 +188,20 @@ impl<F: FnMut(&Call) -> Outcome> Player<F> {
             (_, 0) => refused(answer) + kept(&out),
             (Entry::Construct, 2) => format!(" no change{}", kept(&out)),
             (Entry::Apply, _) => format!(" snapshot{}", written(&out, answer.length as usize)),
-            (Entry::Judge, _) => {
-                let session = left.state.session;
+            _ => format!(" serial {}{}", answer.serial, served(answer, &out)),
+        }
+    }
+
+    /// judge NAME VERSION ROOM - SNAPSHOT MESSAGES
+    fn judge(&mut self, line: &Line<'_>) -> String {
+        let lent = vec![MARK; line.number(2) as usize];
+        let left = (self.run)(&Call::judge(line.u32(1), line.bytes(4), line.bytes(5), lent));
+        let (answer, session, out) = (&left.answer, left.state.session, whole(&left.bytes[2]));
+        match answer.kind {
+            0 => refused(answer) + kept(&out),
+            _ => {
                 format!(" session {session} serial {}{}{}", answer.serial, times(&left), served(answer, &out))
             }
-            _ => format!(" serial {}{}", answer.serial, served(answer, &out)),
         }
     }
 
@@ -277,22 +285,24 @@ impl<F: FnMut(&Call) -> Outcome> Player<F> {
         named(&left) + &answer
     }
 
-    /// query-messages NAME SESSION SERIAL REFRESH RETRY EXPIRE ROOM, full-messages NAME REFRESH RETRY EXPIRE ROOM,
-    /// notify-message NAME ROOM
+    /// query-messages NAME VERSION SESSION SERIAL REFRESH RETRY EXPIRE ROOM,
+    /// full-messages NAME VERSION REFRESH RETRY EXPIRE ROOM, notify-message NAME VERSION ROOM
     fn messages(&mut self, line: &Line<'_>) -> String {
         let [snapshots, deltas] = self.stores.each_ref().map(Store::lent);
+        let version = line.u32(1);
         let times = |at: usize| [0, 1, 2].map(|i| line.u32(at + i));
         let lent = |at: usize| vec![MARK; line.number(at) as usize];
         let call = match line.0[0] {
             "query-messages" => {
-                let (session, serial) = (line.number(1) as u16, line.u32(2));
-                let query = Call::query(self.state, session, serial, snapshots, deltas, lent(6));
-                Call::query_messages(query, times(3))
+                let (session, serial) = (line.number(2) as u16, line.u32(3));
+                let query = Call::query(self.state, session, serial, snapshots, deltas, lent(7));
+                Call::query_messages(version, query, times(4))
             }
             "full-messages" => {
-                Call::full_messages(Call::full(self.state, snapshots, deltas), times(1), lent(4))
+                let full = Call::full(self.state, snapshots, deltas);
+                Call::full_messages(version, full, times(2), lent(5))
             }
-            _ => Call::notify_message(self.state, lent(1)),
+            _ => Call::notify_message(version, self.state, lent(2)),
         };
         let left = (self.run)(&call);
         let (answer, out) = (&left.answer, whole(&left.bytes[2]));

@@ -7,9 +7,9 @@ use oracle::model::{snapshot, snapshot_bytes};
 #[test]
 fn judged_as_recorded() {
     let all = captures::all();
-    assert!(all.len() >= 45);
-    for Captured { name, base, answer, verdict } in all {
-        let said = judge(snapshot(&base, 1).expect("a good snapshot"), &answer);
+    assert!(all.len() >= 90);
+    for Captured { name, version, base, answer, verdict } in all {
+        let said = judge(version, snapshot(&base, 1).expect("a good snapshot"), &answer);
         let said = said.map(|said| snapshot_bytes(&said.made)).map_err(|refused| (refused.0, refused.2));
         assert_eq!(said, verdict, "{name}");
     }
@@ -18,11 +18,11 @@ fn judged_as_recorded() {
 /// In whatever order the messages come, but for records that come twice.
 #[test]
 fn any_order() {
-    for Captured { name, base, answer, verdict } in captures::all() {
+    for Captured { name, version, base, answer, verdict } in captures::all() {
         let mut messages = pieces(&answer);
         let last = messages.len() - 1;
         messages[1..last].reverse();
-        let said = judge(snapshot(&base, 1).expect("a good snapshot"), &messages.concat());
+        let said = judge(version, snapshot(&base, 1).expect("a good snapshot"), &messages.concat());
         match (said, verdict) {
             (Ok(said), Ok(want)) => assert_eq!(snapshot_bytes(&said.made), want, "{name}"),
             (Err(said), Err((number, _))) => assert_eq!(said.0, number, "{name}"),

@@ -19,7 +19,7 @@ fn by_model(folder: &str) -> String {
 
 #[test]
 fn examples_by_model() {
-    assert!(by_model("examples").lines().count() >= 780);
+    assert!(by_model("examples").lines().count() >= 980);
 }
 
 /// What tools/peers serves to real clients.

@@ -1,4 +1,4 @@
-use crate::{raw, Delta, Refusal, Serial, Session, Timing, QUERY_LIMIT};
+use crate::{raw, Delta, Refusal, Serial, Session, Timing, Version, QUERY_LIMIT};
 
 /// The newest snapshot and the last deltas, and what a router is to be sent.
 ///
@@ -251,14 +251,14 @@ impl History {
         raw::ready(self.state)
     }
 
-    /// Writes the messages of RFC 8210, version 1, that answer the Serial Query of a router at `serial`
-    /// of `session`: what [`query`](History::query) says, or a Cache Reset or an Error Report where it
-    /// refuses with [`Refusal::NotServed`] or [`Refusal::OtherSession`]. The times are brought into
-    /// their ranges as [`timing`](crate::timing) does. There is no message for ASPAs: they are skipped
-    /// and counted.
+    /// Writes the messages of a version that answer the Serial Query of a router at `serial` of `session`:
+    /// what [`query`](History::query) says, or a Cache Reset or an Error Report where it refuses with
+    /// [`Refusal::NotServed`] or [`Refusal::OtherSession`]. The times are brought into their ranges as
+    /// [`timing`](crate::timing) does; version 0 tells none. There is no message for ASPAs, in version 0
+    /// none for router keys either: these are skipped and counted.
     ///
     /// ```
-    /// use taplevung::{History, Refusal, Sent, Serial, Session, Timing};
+    /// use taplevung::{History, Refusal, Sent, Serial, Session, Timing, Version::Rfc8210};
     ///
     /// // 192.0.2.0/24, maximum length 24, AS 64496.
     /// let origin = b"\x01\x00\x17\x04\xc0\x00\x02\x00\0\0\0\0\0\0\0\0\0\0\0\0\x18\x18\x00\x00\xfb\xf0";
@@ -268,21 +268,24 @@ impl History {
     ///
     /// let times = Timing { refresh: 3600, retry: 600, expire: 7200 };
     /// let mut out = [0; 100];
-    /// let Sent::Data(messages) = history.query_messages(Session(77), Serial(0), times, &mut out)? else { panic!() };
+    /// let sent = history.query_messages(Rfc8210, Session(77), Serial(0), times, &mut out)?;
+    /// let Sent::Data(messages) = sent else { panic!() };
     /// assert_eq!((messages.serial, messages.announced, messages.length), (Serial(1), 1, 8 + 20 + 24));
     /// assert_eq!(out[8..28], *b"\x01\x04\0\0\0\0\0\x14\x01\x18\x18\0\xc0\x00\x02\x00\x00\x00\xfb\xf0");
-    /// assert_eq!(history.query_messages(Session(77), Serial(9), times, &mut out)?, Sent::CacheReset { length: 8 });
+    /// let away = history.query_messages(Rfc8210, Session(77), Serial(9), times, &mut out)?;
+    /// assert_eq!(away, Sent::CacheReset { length: 8 });
     /// # Ok::<(), Refusal>(())
     /// ```
     pub fn query_messages(
         &self,
+        version: Version,
         session: Session,
         serial: Serial,
         times: Timing,
         out: &mut [u8],
     ) -> Result<Sent, Refusal> {
-        let sent =
-            raw::query_messages(self.state, session, serial, times, &self.snapshots, &self.deltas, out);
+        let (number, snapshots, deltas) = (version.number(), &self.snapshots, &self.deltas);
+        let sent = raw::query_messages(number, self.state, session, serial, times, snapshots, deltas, out);
         Refusal::check(&sent.answer)?;
         let length = sent.answer.length as usize;
         Ok(match sent.answer.kind {
@@ -295,15 +298,21 @@ impl History {
     /// Writes the messages that answer a Reset Query: the held snapshot's items, announced. Before the
     /// first update there are none between Cache Response and End of Data; [`ready`](History::ready)
     /// tells.
-    pub fn full_messages(&self, times: Timing, out: &mut [u8]) -> Result<Messages, Refusal> {
-        let sent = raw::full_messages(self.state, times, &self.snapshots, &self.deltas, out);
+    pub fn full_messages(
+        &self,
+        version: Version,
+        times: Timing,
+        out: &mut [u8],
+    ) -> Result<Messages, Refusal> {
+        let (number, snapshots, deltas) = (version.number(), &self.snapshots, &self.deltas);
+        let sent = raw::full_messages(number, self.state, times, snapshots, deltas, out);
         Refusal::check(&sent.answer)?;
         Ok(Messages::of(&sent))
     }
 
     /// Writes the Serial Notify, and says how long it is.
-    pub fn notify_message(&self, out: &mut [u8]) -> Result<usize, Refusal> {
-        let sent = raw::notify_message(self.state, out);
+    pub fn notify_message(&self, version: Version, out: &mut [u8]) -> Result<usize, Refusal> {
+        let sent = raw::notify_message(version.number(), self.state, out);
         Refusal::check(&sent.answer)?;
         Ok(sent.answer.length as usize)
     }

@@ -53,6 +53,25 @@ pub struct Serial(pub u32);
 #[derive(Clone, Copy, Debug, Eq, Hash, PartialEq)]
 pub struct Session(pub u16);
 
+/// The version of router messages.
+#[derive(Clone, Copy, Debug, Eq, Hash, PartialEq)]
+pub enum Version {
+    /// Version 0: no router keys, and an End of Data of 12 bytes, without times.
+    Rfc6810,
+    /// Version 1.
+    Rfc8210,
+}
+
+impl Version {
+    /// The number that the messages carry.
+    pub fn number(self) -> u32 {
+        match self {
+            Version::Rfc6810 => 0,
+            Version::Rfc8210 => 1,
+        }
+    }
+}
+
 /// The three intervals of an End of Data message, in seconds.
 #[repr(C)]
 #[derive(Clone, Copy, Debug, Eq, Hash, PartialEq)]
@@ -170,7 +189,7 @@ pub struct Judged {
     pub session: Session,
     /// The serial of the End of Data.
     pub serial: Serial,
-    /// The intervals of the End of Data, as they stand.
+    /// The intervals of the End of Data, as they stand; in version 0 zeros.
     pub timing: Timing,
     pub length: usize,
     /// How many messages announce.
@@ -179,15 +198,15 @@ pub struct Judged {
     pub withdrawn: u64,
 }
 
-/// Judges the answer of another cache, the messages of RFC 8210 from a Cache Response to an End of Data, for
+/// Judges the answer of another cache, the messages of a version from a Cache Response to an End of Data, for
 /// one who holds `snapshot`: taken one after another, in whatever order they come. Writes the snapshot that
-/// they leave, in which the ASPAs of the one given stay.
+/// they leave, in which the ASPAs of the one given stay, in version 0 its router keys too.
 ///
 /// The first faulty message decides, and its offset is in the refusal: [`Refusal::Faulty`],
 /// [`Refusal::Absent`] or [`Refusal::Present`].
 ///
 /// ```
-/// use taplevung::{judge, Refusal, Serial, Session};
+/// use taplevung::{judge, Refusal, Serial, Session, Version};
 /// // 192.0.2.0/24, maximum length 24, AS 64496: as a field, and announced.
 /// let field = b"\x01\x00\x17\x04\xc0\x00\x02\x00\0\0\0\0\0\0\0\0\0\0\0\0\x18\x18\x00\x00\xfb\xf0";
 /// let message = b"\x01\x04\0\0\0\0\0\x14\x01\x18\x18\0\xc0\x00\x02\x00\x00\x00\xfb\xf0";
@@ -197,15 +216,19 @@ pub struct Judged {
 ///
 /// let answer = [&response[..], message, end].concat();
 /// let mut out = [0; 100];
-/// let judged = judge(b"", &answer, &mut out)?;
+/// let judged = judge(Version::Rfc8210, b"", &answer, &mut out)?;
 /// assert_eq!((judged.session, judged.serial, judged.announced), (Session(7), Serial(5), 1));
 /// assert_eq!(&out[..judged.length], field);
 /// // One who has the record already.
-/// assert_eq!(judge(field, &answer, &mut out), Err(Refusal::Present { argument: 2, offset: 8 }));
+/// let again = judge(Version::Rfc8210, field, &answer, &mut out);
+/// assert_eq!(again, Err(Refusal::Present { argument: 2, offset: 8 }));
+/// // One who asked in version 0.
+/// let older = judge(Version::Rfc6810, b"", &answer, &mut out);
+/// assert_eq!(older, Err(Refusal::Faulty { argument: 2, offset: 0 }));
 /// # Ok::<(), Refusal>(())
 /// ```
-pub fn judge(snapshot: &[u8], messages: &[u8], out: &mut [u8]) -> Result<Judged, Refusal> {
-    let raw::Judged { answer, session, timing } = raw::judge(snapshot, messages, out);
+pub fn judge(version: Version, snapshot: &[u8], messages: &[u8], out: &mut [u8]) -> Result<Judged, Refusal> {
+    let raw::Judged { answer, session, timing } = raw::judge(version.number(), snapshot, messages, out);
     Refusal::check(&answer)?;
     let raw::Answer { serial, length, announced, withdrawn, .. } = answer;
     Ok(Judged { session, serial, timing, length: length as usize, announced, withdrawn })

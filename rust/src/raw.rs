@@ -191,6 +191,7 @@ mod c {
         pub fn taplevung_notify(state: State) -> Notice;
         pub fn taplevung_ready(state: State) -> bool;
         pub fn taplevung_query_messages(
+            version: u32,
             state: State,
             session: Session,
             serial: Serial,
@@ -203,6 +204,7 @@ mod c {
             out_length: usize,
         ) -> Sent;
         pub fn taplevung_full_messages(
+            version: u32,
             state: State,
             times: Timing,
             snapshots: *const u8,
@@ -212,9 +214,10 @@ mod c {
             out: *mut u8,
             out_length: usize,
         ) -> Sent;
-        pub fn taplevung_notify_message(state: State, out: *mut u8, out_length: usize) -> Sent;
+        pub fn taplevung_notify_message(version: u32, state: State, out: *mut u8, out_length: usize) -> Sent;
         pub fn taplevung_timing(refresh: u32, retry: u32, expire: u32) -> Timing;
         pub fn taplevung_judge(
+            version: u32,
             snapshot: *const u8,
             snapshot_length: usize,
             messages: *const u8,
@@ -365,8 +368,11 @@ pub fn ready(state: State) -> bool {
     unsafe { c::taplevung_ready(state) }
 }
 
-/// `taplevung_query_messages`: the messages that answer a Serial Query.
+/// `taplevung_query_messages`: the messages that answer a Serial Query. Version 0 is RFC 6810, any other number
+/// RFC 8210; so it is below.
+#[allow(clippy::too_many_arguments)]
 pub fn query_messages(
+    version: u32,
     state: State,
     session: Session,
     serial: Serial,
@@ -378,6 +384,7 @@ pub fn query_messages(
     // SAFETY: as in `construct`.
     unsafe {
         c::taplevung_query_messages(
+            version,
             state,
             session,
             serial,
@@ -393,10 +400,18 @@ pub fn query_messages(
 }
 
 /// `taplevung_full_messages`: the messages that answer a Reset Query.
-pub fn full_messages(state: State, times: Timing, snapshots: &[u8], deltas: &[u8], out: &mut [u8]) -> Sent {
+pub fn full_messages(
+    version: u32,
+    state: State,
+    times: Timing,
+    snapshots: &[u8],
+    deltas: &[u8],
+    out: &mut [u8],
+) -> Sent {
     // SAFETY: as in `construct`.
     unsafe {
         c::taplevung_full_messages(
+            version,
             state,
             times,
             snapshots.as_ptr(),
@@ -410,9 +425,9 @@ pub fn full_messages(state: State, times: Timing, snapshots: &[u8], deltas: &[u8
 }
 
 /// `taplevung_notify_message`: the Serial Notify.
-pub fn notify_message(state: State, out: &mut [u8]) -> Sent {
+pub fn notify_message(version: u32, state: State, out: &mut [u8]) -> Sent {
     // SAFETY: as in `construct`.
-    unsafe { c::taplevung_notify_message(state, out.as_mut_ptr(), out.len()) }
+    unsafe { c::taplevung_notify_message(version, state, out.as_mut_ptr(), out.len()) }
 }
 
 /// `taplevung_timing`: each interval brought into its range, and expire above the two others.
@@ -422,10 +437,11 @@ pub fn timing(refresh: u32, retry: u32, expire: u32) -> Timing {
 }
 
 /// `taplevung_judge`: the snapshot that the messages of another cache make of a snapshot.
-pub fn judge(snapshot: &[u8], messages: &[u8], out: &mut [u8]) -> Judged {
+pub fn judge(version: u32, snapshot: &[u8], messages: &[u8], out: &mut [u8]) -> Judged {
     // SAFETY: as in `construct`.
     unsafe {
         c::taplevung_judge(
+            version,
             snapshot.as_ptr(),
             snapshot.len(),
             messages.as_ptr(),

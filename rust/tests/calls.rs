@@ -2,7 +2,7 @@
 //! kinds of input is the oracle's business.
 use taplevung::{
     apply, construct, judge, merge, raw, timing, Constructed, Delta, History, Judged, Refusal, Reply, Serial,
-    Session, Timing, Updated, DELTA_LIMIT, QUERY_LIMIT, SNAPSHOT_LIMIT,
+    Session, Timing, Updated, Version::*, DELTA_LIMIT, QUERY_LIMIT, SNAPSHOT_LIMIT,
 };
 
 /// A field of an ASPA: tag, customer, providers.
@@ -104,10 +104,43 @@ fn judging() {
         announced: 2,
         withdrawn: 2,
     };
-    assert_eq!(judge(&held, &messages, &mut out), Ok(judged));
+    assert_eq!(judge(Rfc8210, &held, &messages, &mut out), Ok(judged));
     assert_eq!(out[..left.len()], left);
     assert!(out[left.len()..].iter().all(|&b| b == 7));
-    assert_eq!(judge(&held, &answer(&[]), &mut out).unwrap().length, held.len());
+    assert_eq!(judge(Rfc8210, &held, &answer(&[]), &mut out).unwrap().length, held.len());
+}
+
+#[test]
+fn judging_version_0() {
+    let older = |mut message: Vec<u8>| {
+        message[0] = 0;
+        message
+    };
+    let end = |length: u8, rest: &[u8]| [&[0, 7, 0, 3, 0, 0, 0, length, 0, 0, 0, 9], rest].concat();
+    let answer = |messages: Vec<u8>, end: Vec<u8>| [vec![0, 3, 0, 3, 0, 0, 0, 8], messages, end].concat();
+    let key = [&[0, 9, 1, 0, 0, 0, 0, 32][..], &[5; 24]].concat();
+    let held = [origin(2), aspa(3, 1, &[2])].concat();
+    let mut out = [7; 80];
+    let judged = judge(Rfc6810, &held, &answer(older(prefix(1, 1)), end(12, &[])), &mut out).unwrap();
+    assert_eq!((judged.session, judged.serial, judged.announced), (Session(3), Serial(9), 1));
+    assert_eq!(judged.timing, Timing { refresh: 0, retry: 0, expire: 0 });
+    assert_eq!(out[..judged.length], [origin(1), held.clone()].concat());
+    out.fill(7);
+    for (messages, offset) in [
+        (answer(key, end(12, &[])), 8),
+        (answer(vec![], end(24, &[1; 12])), 8),
+        (answer(prefix(1, 1), end(12, &[])), 8),
+        (self::answer(&[prefix(1, 1)]), 0),
+    ] {
+        let faulty = Refusal::Faulty { argument: 2, offset };
+        assert_eq!(judge(Rfc6810, &held, &messages, &mut out), Err(faulty));
+    }
+    assert_eq!(out, [7; 80]);
+    // any other number is RFC 8210
+    let messages = self::answer(&[prefix(1, 1)]);
+    for version in [1, 2, 256, u32::MAX] {
+        assert_eq!(raw::judge(version, &held, &messages, &mut out).answer.kind, 1);
+    }
 }
 
 #[test]
@@ -131,10 +164,10 @@ fn judging_refused() {
         (&aspa(3, 1, &[1]), b"", Refusal::Senseless { argument: 1, offset: 0 }),
         (&long, b"", Refusal::TooLong { argument: 1 }),
     ] {
-        assert_eq!(judge(snapshot, messages, &mut out), Err(refusal));
+        assert_eq!(judge(Rfc8210, snapshot, messages, &mut out), Err(refusal));
         assert!(out.iter().all(|&b| b == 7), "{refusal}");
     }
-    assert_eq!(judge(&held, &answer(&[prefix(1, 1)]), &mut out[..51]), Err(Refusal::NoRoom));
+    assert_eq!(judge(Rfc8210, &held, &answer(&[prefix(1, 1)]), &mut out[..51]), Err(Refusal::NoRoom));
     let present = Refusal::Present { argument: 2, offset: 28 };
     assert_eq!((present.number(), present.argument(), present.offset()), (15, Some(2), Some(28)));
 }

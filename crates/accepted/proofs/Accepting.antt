@@ -30,7 +30,7 @@ use Rattle.delta.specs.declared.admit.Admitted.the-variants.{Yes}
 use Rattle.delta.specs.Admission.{admitOneOf}
 use Rattle.delta.specs.Demand.{GoodSnapshot, Acceptable, holding}
 use Rattle.message.specs.declared.version.Version.{Version}
-use Rattle.message.specs.Version.{speaks}
+use Rattle.message.specs.Version.{speaks, timesTold}
 use Rattle.message.specs.Say.{kindIn, spoken}
 use Rattle.message.specs.Hear.{Heard, Stop, ended, hear}
 use Rattle.message.specs.Take.{all, asItem, take}
@@ -90,7 +90,7 @@ module _ (v : Version) (session : ℕ) (serial : Serial) (times : Timing) (base 
   told-is : map asItem (hear v messages .told) ≡ D
   told-is = ap (λ (h : Heard). map asItem (h .told)) (l .reads .heard) ∙ l .reads .items
 
-  stop-is : hear v messages .stop ≡ ended (session % 65_536) (serial .0) (timingOf times)
+  stop-is : hear v messages .stop ≡ ended (session % 65_536) (serial .0) (timesTold v (timingOf times))
   stop-is = ap (λ (h : Heard). h .stop) (l .reads .heard)
 
   taken : take A (hear v messages .told) ≡ all B
@@ -108,7 +108,7 @@ module _ (v : Version) (session : ℕ) (serial : Serial) (times : Timing) (base 
   says = faithful Snapshot .map-back B map-b
 
   answers : (room : ℕ) → length (encode Snapshot B) ≤ room →
-      judgeOf v base messages room ≡ Accepted (record { 0 = session % 65_536 }) serial (timingOf times) (countsOf (hear v messages .told) (encode Snapshot B))
+      judgeOf v base messages room ≡ Accepted (record { 0 = session % 65_536 }) serial (timesTold v (timingOf times)) (countsOf (hear v messages .told) (encode Snapshot B))
   unfolding judgeOf
   answers room h = rw (admits, stop-is, leaves, le-leb (length (encode Snapshot B)) room h)
 

@@ -16,6 +16,7 @@ use Rattle.payload.specs.Content.{Bytes}
 use Rattle.payload.specs.Payload.{items}
 use Rattle.delta.specs.Demand.{holding}
 use Rattle.message.specs.declared.version.Version.{Version}
+use Rattle.message.specs.Version.{timesTold}
 use Rattle.message.specs.Say.{spoken}
 use Rattle.message.specs.Hear.{hear}
 use Rattle.judge.specs.declared.judge.Judged.the-variants.{Accepted}
@@ -33,9 +34,9 @@ use Rattle.router.specs.Promise.{queryIn, fullIn, written}
 -- messages that are accepted by one who holds the snapshot base, and lead on to the snapshot now
 pub record Accepts (v : Version) (session : ℕ) (serial : Serial) (times : Timing) (base now messages : Bytes) : Type 0 where
   pub result : Bytes
-  -- with room for the result: the 16-bit session, the serial and the times of the End of Data, the result's length and the counts of messages
+  -- with room for the result: the 16-bit session, the serial and the times of the End of Data (what the version tells of them), the result's length and the counts of messages
   pub accepts : (room : ℕ) → length result ≤ room →
-      judgeOf v base messages room ≡ Accepted (record { 0 = session % 65_536 }) serial (timingOf times) (countsOf (hear v messages .told) result)
+      judgeOf v base messages room ≡ Accepted (record { 0 = session % 65_536 }) serial (timesTold v (timingOf times)) (countsOf (hear v messages .told) result)
   -- and the result is written
   pub writes : (out : Bytes) → length result ≤ length out → judgeOut v base messages out ≡ holding result out
   -- it is good: as now in the kinds that the version speaks of, as base in the others

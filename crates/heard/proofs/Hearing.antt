@@ -18,7 +18,7 @@ use Rattle.field.proofs.Eights.{Octets}
 use Rattle.field.proofs.Sizes.{both}
 use Rattle.payload.specs.Content.{Bytes}
 use Rattle.message.specs.declared.version.Version.{Version}
-use Rattle.message.specs.declared.version.Version.the-variants.{Rfc8210}
+use Rattle.message.specs.declared.version.Version.the-variants.{Rfc6810, Rfc8210}
 use Rattle.message.specs.Version.{versionNumber, speaks, timesIn, endLength}
 use Rattle.message.specs.Message.{Message, ipv4Prefix, ipv6Prefix, endOfData, routerKey}
 use Rattle.change.specs.Change.{announce, withdraw}
@@ -45,24 +45,26 @@ use Rattle.heard.proofs.Reading.{two-drop, four-drop, first-drop, front
 
 -- an End of Data has a serial
 end-long : (v : Version) → 12 ≤ endLength v
+end-long Rfc6810 = omega arith
 end-long Rfc8210 = omega arith
 
 module _ (v : Version) (s : Bytes) (at : ℕ) where
-  pub times-in : Timed v s at → at + 8 ≤ length s
-  times-in h = go v (h .within)
-    where
-      go : (v : Version) → at + (endLength v - 12) ≤ length s → at + 8 ≤ length s
-      go Rfc8210 h = omega arith
+  -- twelve bytes
+  times-long : v ≡ Rfc8210 → Timed v s at → at + 12 ≤ length s
+  times-long k h = let w : at + (endLength v - 12) ≤ length s = h .within in let z : endLength v ≡ 24 = ap endLength k in omega arith
 
-  pub times-in-2 : Timed v s at → at + 4 + 8 ≤ length s
-  times-in-2 h = go v (h .within)
-    where
-      go : (v : Version) → at + (endLength v - 12) ≤ length s → at + 4 + 8 ≤ length s
-      go Rfc8210 h = omega arith
+  pub times-in : v ≡ Rfc8210 → Timed v s at → at + 8 ≤ length s
+  times-in k h = omega (arith, times-long k h)
 
-  pub times-are : Octets s → (x y : ℕ) → x ≡ wordAt s at → y ≡ wordAt s (at + 4)
+  pub times-in-2 : v ≡ Rfc8210 → Timed v s at → at + 4 + 8 ≤ length s
+  times-in-2 k h = omega (arith, times-long k h)
+
+  pub times-none : v ≡ Rfc6810 → _≡_ {A = Timing} (record { refresh = 0; retry = 0; expire = 0 }) (timesIn v (drop at s))
+  times-none k = rw k
+
+  pub times-are : v ≡ Rfc8210 → Octets s → (x y : ℕ) → x ≡ wordAt s at → y ≡ wordAt s (at + 4)
       → _≡_ {A = Timing} (record { refresh = x / 4_294_967_296; retry = x % 4_294_967_296; expire = y % 4_294_967_296 }) (timesIn v (drop at s))
-  times-are o x y d e = go v
+  times-are k o x y d e = rw k go
     where
       z0 : at + 0 ≡ at
       z0 = omega arith
@@ -70,8 +72,8 @@ module _ (v : Version) (s : Bytes) (at : ℕ) where
       z8 : at + 4 + 4 ≡ at + 8
       z8 = omega arith
 
-      go : (v : Version) → _≡_ {A = Timing} (record { refresh = x / 4_294_967_296; retry = x % 4_294_967_296; expire = y % 4_294_967_296 }) (timesIn v (drop at s))
-      go Rfc8210 =
+      go : _≡_ {A = Timing} (record { refresh = x / 4_294_967_296; retry = x % 4_294_967_296; expire = y % 4_294_967_296 }) (timesIn Rfc8210 (drop at s))
+      go =
           let p0 : x / 4_294_967_296 ≡ fourAt s at = rw d (high-half s o at) in
           let q0 : x % 4_294_967_296 ≡ fourAt s (at + 4) = rw d (low-half s o at) in
           let r0 : y % 4_294_967_296 ≡ fourAt s (at + 4 + 4) = rw e (low-half s o (at + 4)) in
@@ -80,7 +82,7 @@ module _ (v : Version) (s : Bytes) (at : ℕ) where
           let r : y % 4_294_967_296 ≡ fourAt (drop at s) 8 = r0 ∙ ap (λ (i : ℕ). fourAt s i) z8 ∙ sym (four-drop s at 8) in
           λ i. record { refresh = p i; retry = q i; expire = r i }
 
-pub ruleset timing = (times-in, times-in-2, times-are)
+pub ruleset timing = (times-in, times-in-2, times-none, times-are)
 
 -- ---- is_whole
 

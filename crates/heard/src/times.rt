@@ -7,12 +7,17 @@ ghost use lib.ListN.{drop};
 ghost use Rattle.message.specs.Version.{timesIn};
 ghost use Rattle.heard.specs.Step.{Timed};
 
-// The times that stand at `at`, as a version has them.
+// The times that stand at `at`, as a version has them: zeros where it has none.
 pub(crate) fn times_at(version: Version, s: &[u8], at: usize) -> Timing
     requires { ⌜ Timed version (now s) at ⌝ }
     ensures { λ r. ⌜ r ≡ timesIn version (drop at (now (s .entry))) ⌝ }
 {
     match version {
+        Version::Rfc6810 => Timing {
+            refresh: 0,
+            retry: 0,
+            expire: 0,
+        },
         Version::Rfc8210 => {
             let first = word_at(s, at);
             let last = word_at(s, at + 4);

@@ -17,6 +17,7 @@ use crate::told::queried_as;
 use crate::told::replied_as;
 use crate::told::told_full;
 use crate::told::updated_as;
+use crate::version::version_of;
 use appliance::query_all::query_all;
 use delta::apply::apply;
 use delta::construct::construct;
@@ -28,7 +29,6 @@ use history::notify::ready;
 use history::query::query;
 use history::update::update_with;
 use judge::judge::judge;
-use message::version::Version;
 use past::notify::Notice;
 use serial::Serial;
 use serial::Session;
@@ -41,16 +41,15 @@ ghost use mathlib.Core.Path.{_≡_};
 ghost use lib.ListN.{length};
 ghost use Rattle.serial.specs.Timing.{timingOf};
 ghost use Rattle.delta.specs.Answer.{constructOf, constructOut, mergeOf, mergeOut, applyOf, applyOut};
-ghost use Rattle.message.specs.declared.version.Version.the-variants.{Rfc8210};
 ghost use Rattle.judge.specs.Answer.{judgeOf, judgeOut};
 ghost use Rattle.past.specs.Create.{createOf};
 ghost use Rattle.past.specs.Query.{queryOf, queryOut};
 ghost use Rattle.past.specs.Update.{updateOf, updateSnapshots, updateDeltas};
 ghost use Rattle.past.specs.Full.{fullOf, notifyOf, readyOf};
 ghost use Rattle.appliance.specs.QueryAll.{queryAllOf, queryAllOut};
-ghost use Rattle.message.specs.declared.version.Version.the-variants.{Rfc8210};
 ghost use Rattle.wire.specs.Answer.{sentAt, outAt, queryPlan, fullPlan, notifyPlan};
 ghost use Rattle.host.specs.State.{historyOf};
+ghost use Rattle.host.specs.Version.{versionOf};
 ghost use Rattle.host.specs.Sent.{flatSent};
 ghost use Rattle.host.specs.Told.{madeCreated, madeUpdated, toldQueried, toldFull, flatReplied};
 ghost use Rattle.host.specs.Flat.{flatConstructed, flatMerged, flatApplied};
@@ -88,10 +87,16 @@ pub extern "C" fn taplevung_apply(snapshot: &[u8], delta: &[u8], out: &mut [u8])
 }
 
 #[no_mangle]
-pub extern "C" fn taplevung_judge(snapshot: &[u8], messages: &[u8], out: &mut [u8]) -> Judged
-    ensures { λ r. ⌜ (r ≡ flatJudged (judgeOf Rfc8210 (now (snapshot .entry)) (now (messages .entry)) (length (now (out .entry))))) × (now (out .exit) ≡ judgeOut Rfc8210 (now (snapshot .entry)) (now (messages .entry)) (now (out .entry))) ⌝ }
+pub extern "C" fn taplevung_judge(
+    version: u32,
+    snapshot: &[u8],
+    messages: &[u8],
+    out: &mut [u8],
+) -> Judged
+    ensures { λ r. ⌜ (r ≡ flatJudged (judgeOf (versionOf version) (now (snapshot .entry)) (now (messages .entry)) (length (now (out .entry))))) × (now (out .exit) ≡ judgeOut (versionOf version) (now (snapshot .entry)) (now (messages .entry)) (now (out .entry))) ⌝ }
 {
-    judged_as(judge(Version::Rfc8210, snapshot, messages, out))
+    let v = version_of(version);
+    judged_as(judge(v, snapshot, messages, out))
 }
 
 #[no_mangle]
@@ -186,6 +191,7 @@ pub extern "C" fn taplevung_ready(state: State) -> bool
 
 #[no_mangle]
 pub extern "C" fn taplevung_query_messages(
+    version: u32,
     state: State,
     session: Session,
     serial: Serial,
@@ -194,39 +200,34 @@ pub extern "C" fn taplevung_query_messages(
     deltas: &[u8],
     out: &mut [u8],
 ) -> Sent
-    ensures { λ r. ⌜ (r ≡ flatSent (sentAt (queryPlan Rfc8210 (historyOf state) session serial times (now (snapshots .entry)) (now (deltas .entry))) (length (now (out .entry))))) × (now (out .exit) ≡ outAt (queryPlan Rfc8210 (historyOf state) session serial times (now (snapshots .entry)) (now (deltas .entry))) (now (out .entry))) ⌝ }
+    ensures { λ r. ⌜ (r ≡ flatSent (sentAt (queryPlan (versionOf version) (historyOf state) session serial times (now (snapshots .entry)) (now (deltas .entry))) (length (now (out .entry))))) × (now (out .exit) ≡ outAt (queryPlan (versionOf version) (historyOf state) session serial times (now (snapshots .entry)) (now (deltas .entry))) (now (out .entry))) ⌝ }
 {
+    let v = version_of(version);
     let h = history_of(state);
-    sent_as(query_messages(
-        Version::Rfc8210,
-        h,
-        session,
-        serial,
-        times,
-        snapshots,
-        deltas,
-        out,
-    ))
+    sent_as(query_messages(v, h, session, serial, times, snapshots, deltas, out))
 }
 
 #[no_mangle]
 pub extern "C" fn taplevung_full_messages(
+    version: u32,
     state: State,
     times: Timing,
     snapshots: &[u8],
     deltas: &[u8],
     out: &mut [u8],
 ) -> Sent
-    ensures { λ r. ⌜ (r ≡ flatSent (sentAt (fullPlan Rfc8210 (historyOf state) times (now (snapshots .entry)) (now (deltas .entry))) (length (now (out .entry))))) × (now (out .exit) ≡ outAt (fullPlan Rfc8210 (historyOf state) times (now (snapshots .entry)) (now (deltas .entry))) (now (out .entry))) ⌝ }
+    ensures { λ r. ⌜ (r ≡ flatSent (sentAt (fullPlan (versionOf version) (historyOf state) times (now (snapshots .entry)) (now (deltas .entry))) (length (now (out .entry))))) × (now (out .exit) ≡ outAt (fullPlan (versionOf version) (historyOf state) times (now (snapshots .entry)) (now (deltas .entry))) (now (out .entry))) ⌝ }
 {
+    let v = version_of(version);
     let h = history_of(state);
-    sent_as(full_messages(Version::Rfc8210, h, times, snapshots, deltas, out))
+    sent_as(full_messages(v, h, times, snapshots, deltas, out))
 }
 
 #[no_mangle]
-pub extern "C" fn taplevung_notify_message(state: State, out: &mut [u8]) -> Sent
-    ensures { λ r. ⌜ (r ≡ flatSent (sentAt (notifyPlan Rfc8210 (historyOf state)) (length (now (out .entry))))) × (now (out .exit) ≡ outAt (notifyPlan Rfc8210 (historyOf state)) (now (out .entry))) ⌝ }
+pub extern "C" fn taplevung_notify_message(version: u32, state: State, out: &mut [u8]) -> Sent
+    ensures { λ r. ⌜ (r ≡ flatSent (sentAt (notifyPlan (versionOf version) (historyOf state)) (length (now (out .entry))))) × (now (out .exit) ≡ outAt (notifyPlan (versionOf version) (historyOf state)) (now (out .entry))) ⌝ }
 {
+    let v = version_of(version);
     let h = history_of(state);
-    sent_as(notify_message(Version::Rfc8210, h, out))
+    sent_as(notify_message(v, h, out))
 }

@@ -5,3 +5,4 @@ pub mod judged;
 pub mod sent;
 pub mod state;
 pub mod told;
+pub mod version;

@@ -13,7 +13,7 @@ use Rattle.field.specs.Tag.{tagOf, goodBody}
 use Rattle.field.specs.Origin.{clean, goodPrefix, goodOrigin}
 use Rattle.field.specs.RouterKey.{goodRouterKey}
 use Rattle.payload.specs.Content.{Bytes}
-use Rattle.message.specs.declared.version.Version.the-variants.{Rfc8210}
+use Rattle.message.specs.declared.version.Version.the-variants.{Rfc6810, Rfc8210}
 use Rattle.message.specs.Message.{Message, serialNotify, serialQuery, cacheResponse, ipv4Prefix, ipv6Prefix, endOfData, cacheReset, routerKey, errorReport, pdu, pdus}
 use Rattle.message.specs.Record.{messageOf, partOf}
 use Rattle.message.specs.Say.{spoken, ofKind, skipped, said, answer}
@@ -144,6 +144,53 @@ second-response = refl
 version-zero : hear Rfc8210 (0 ∷ 3 ∷ 0 ∷ 2 ∷ 0 ∷ 0 ∷ 0 ∷ 8 ∷ []) ≡ record { told = []; stop = faulty 0 }
 unfolding messageIn front hear
 version-zero = refl
+
+-- ---- RFC 6810: an End of Data of 12 bytes, a prefix, and a delta whose router key and ASPA are both left out
+
+end-bytes-0 : pdu Rfc6810 (endOfData 0x1234 7 times) ≡ 0 ∷ 7 ∷ 0x12 ∷ 0x34 ∷ 0 ∷ 0 ∷ 0 ∷ 12 ∷ 0 ∷ 0 ∷ 0 ∷ 7 ∷ []
+unfolding twoBytes fourBytes pdu
+end-bytes-0 = refl
+
+v4-bytes-0 : pdu Rfc6810 (messageOf 1 v4) ≡ 0 ∷ 4 ∷ 0 ∷ 0 ∷ 0 ∷ 0 ∷ 0 ∷ 20 ∷ 1 ∷ 24 ∷ 26 ∷ 0 ∷ 192 ∷ 0 ∷ 2 ∷ 0 ∷ 0 ∷ 0 ∷ 251 ∷ 240 ∷ []
+unfolding twoBytes fourBytes messageOf pdu
+v4-bytes-0 = refl
+
+delta-said-0 : said Rfc6810 delta ≡ messageOf 1 v4 ∷ messageOf 0 v6 ∷ []
+unfolding spoken
+delta-said-0 = refl
+
+keys-skipped-0 : skipped Rfc6810 2 delta ≡ 1
+unfolding ofKind
+keys-skipped-0 = refl
+
+aspas-skipped-0 : skipped Rfc6810 3 delta ≡ 1
+unfolding ofKind
+aspas-skipped-0 = refl
+
+delta-heard-0 : hear Rfc6810 (pdus Rfc6810 (answer Rfc6810 2 7 times delta))
+    ≡ record { told = tellsV4 ∷ tellsV6 ∷ []; stop = ended 2 7 (record { refresh = 0; retry = 0; expire = 0 }) }
+unfolding twoBytes fourBytes tagOf goodBody clean goodPrefix goodOrigin goodRouterKey messageOf partOf pdu pdus spoken messageIn front hearF hear
+delta-heard-0 = refl
+
+-- a router key's message; an End of Data of 24 bytes; a message and a Cache Response of version 1
+abbrev opened-0 : Bytes → Bytes
+opened-0 rest = pdu Rfc6810 (cacheResponse 2) ++ rest
+
+key-refused-0 : hear Rfc6810 (opened-0 (pdu Rfc6810 (messageOf 1 key))) ≡ record { told = []; stop = faulty 8 }
+unfolding twoBytes fourBytes messageOf partOf pdu messageIn front hearF hear
+key-refused-0 = refl
+
+long-end-0 : hear Rfc6810 (opened-0 (0 ∷ 7 ∷ 0 ∷ 2 ∷ 0 ∷ 0 ∷ 0 ∷ 24 ∷ 0 ∷ 0 ∷ 0 ∷ 7 ∷ replicate 12 0)) ≡ record { told = []; stop = faulty 8 }
+unfolding twoBytes fourBytes partOf pdu messageIn front hearF hear
+long-end-0 = refl
+
+mixed-0 : hear Rfc6810 (opened-0 (pdu Rfc8210 (messageOf 1 v4))) ≡ record { told = []; stop = faulty 8 }
+unfolding twoBytes fourBytes messageOf partOf pdu messageIn front hearF hear
+mixed-0 = refl
+
+version-one-0 : hear Rfc6810 (opened []) ≡ record { told = []; stop = faulty 0 }
+unfolding twoBytes fourBytes pdu messageIn front hear
+version-one-0 = refl
 
 -- ---- taken one after another: announced and withdrawn again, announced twice, withdrawn though absent
 

@@ -1,19 +1,16 @@
--- What a version is and is not.
+-- What a version speaks of.
 use Prim.Native.Nat.{ℕ}
-use mathlib.Core.Path.{_≡_, refl}
-use mathlib.Core.Bool.{Bool}
+use mathlib.Core.Path.{_≡_}
 use lib.Dec.{leb}
 use Rattle.message.specs.declared.version.Version.{Version}
-use Rattle.message.specs.declared.version.Version.the-variants.{Rfc8210}
-use Rattle.message.specs.Version.{versionNumber, speaks, endLength}
+use Rattle.message.specs.declared.version.Version.the-variants.{Rfc6810, Rfc8210}
+use Rattle.message.specs.Version.{speaks}
 
-pub number-is : (v : Version) → 1 ≡ versionNumber v
-number-is Rfc8210 = refl
+module _ (v : Version) (kind : ℕ) where
+  pub spoken-0 : v ≡ Rfc6810 → leb kind 1 ≡ speaks v kind
+  spoken-0 e = rw e
 
-pub spoken-is : (v : Version) (kind : ℕ) → leb kind 2 ≡ speaks v kind
-spoken-is Rfc8210 kind = refl
+  pub spoken-1 : v ≡ Rfc8210 → leb kind 2 ≡ speaks v kind
+  spoken-1 e = rw e
 
-pub end-is : (v : Version) → 24 ≡ endLength v
-end-is Rfc8210 = refl
-
-pub ruleset versions = (number-is, spoken-is, end-is)
+pub ruleset versions = (spoken-0, spoken-1)

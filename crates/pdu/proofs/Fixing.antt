@@ -11,7 +11,7 @@ use Rattle.serial.specs.declared.timing.Timing.{Timing}
 use Rattle.field.specs.Number.{twoBytes, fourBytes}
 use Rattle.payload.specs.Content.{Bytes}
 use Rattle.message.specs.declared.version.Version.{Version}
-use Rattle.message.specs.declared.version.Version.the-variants.{Rfc8210}
+use Rattle.message.specs.declared.version.Version.the-variants.{Rfc6810, Rfc8210}
 use Rattle.message.specs.Version.{timesBytes, endLength}
 use Rattle.message.specs.Message.{header, pdu, serialNotify, serialQuery, cacheResponse, endOfData, cacheReset, errorReport}
 use Rattle.pdu.specs.Write.{sessionHead}
@@ -62,21 +62,18 @@ three-are o p q r i x y z a b c ea eb ec e f g =
     rw (ea, eb, ec) at (join o p r (fourBytes x) (fourBytes y ++ fourBytes z) i (i + 4) e (rw (four x))
     (join p q r (fourBytes y) (fourBytes z) (i + 4) (i + 8) f (rw (four y) (omega arith)) g))
 
-pub times-room : (v : Version) (t : Timing) (i n : ℕ) → i + length (timesBytes v t) ≤ n → i + 12 ≤ n
+pub times-room : (v : Version) (t : Timing) (i n : ℕ) → v ≡ Rfc8210 → i + length (timesBytes v t) ≤ n → i + 12 ≤ n
 unfolding twoBytes fourBytes
-times-room v t i n h = go v h
-  where
-    go : (u : Version) → i + length (timesBytes u t) ≤ n → i + 12 ≤ n
-    go Rfc8210 g = g
+times-room v t i n e h = rw e at h
 
-pub times-are : (v : Version) (t : Timing) (o p : Bytes) (i : ℕ) → p ≡ sets o i (fourBytes (t .refresh) ++ (fourBytes (t .retry) ++ fourBytes (t .expire))) →
-    p ≡ sets o i (timesBytes v t)
-times-are v t o p i e = go v
-  where
-    go : (u : Version) → p ≡ sets o i (timesBytes u t)
-    go Rfc8210 = e
+pub times-none : (v : Version) (t : Timing) (o : Bytes) (i : ℕ) → v ≡ Rfc6810 → o ≡ sets o i (timesBytes v t)
+times-none v t o i e = rw e
 
-pub ruleset times = (three-are, times-room, times-are)
+pub times-are : (v : Version) (t : Timing) (o p : Bytes) (i : ℕ) → v ≡ Rfc8210 →
+    p ≡ sets o i (fourBytes (t .refresh) ++ (fourBytes (t .retry) ++ fourBytes (t .expire))) → p ≡ sets o i (timesBytes v t)
+times-are v t o p i d e = rw d e
+
+pub ruleset times = (three-are, times-room, times-none, times-are)
 
 -- ---- End of Data
 
@@ -86,12 +83,14 @@ module _ (v : Version) (t : Timing) where
   end-parts = go v
     where
       go : (u : Version) → endLength u ≡ 12 + length (timesBytes u t)
+      go Rfc6810 = refl
       go Rfc8210 = refl
 
 pub end-small : (v : Version) (n : ℕ) → n ≡ endLength v → n < 4_294_967_296
 end-small v n e = go v e
   where
     go : (u : Version) → n ≡ endLength u → n < 4_294_967_296
+    go Rfc6810 f = omega arith
     go Rfc8210 f = omega arith
 
 module _ (v : Version) (t : Timing) (i n : ℕ) (h : i + endLength v ≤ n) where

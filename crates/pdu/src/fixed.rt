@@ -84,12 +84,13 @@ fn put_three(a: u32, b: u32, c: u32, out: &mut [u8], i: usize)
     store_four(out, i + 8, long(c));
 }
 
-// The times of an End of Data.
+// The times of an End of Data: RFC 6810 has none.
 fn put_times(version: Version, times: Timing, out: &mut [u8], i: usize)
     requires { ⌜ i + length (timesBytes version times) ≤ length (now out) ⌝ }
     ensures { λ r. ⌜ now (out .exit) ≡ sets (now (out .entry)) i (timesBytes version times) ⌝ }
 {
     match version {
+        Version::Rfc6810 => {}
         Version::Rfc8210 => {
             put_three(times.refresh, times.retry, times.expire, out, i);
         }

@@ -22,8 +22,8 @@ use Rattle.payload.specs.Content.{Bytes}
 use Rattle.payload.specs.Valid.{ValidValue, ValidChange, origin, routerKey, aspa, announced, withdrawn, updated}
 use Rattle.item.proofs.Fronts.{drop-bytes, take-bytes}
 use Rattle.message.specs.declared.version.Version.{Version}
-use Rattle.message.specs.declared.version.Version.the-variants.{Rfc8210}
-use Rattle.message.specs.Version.{speaks, endLength}
+use Rattle.message.specs.declared.version.Version.the-variants.{Rfc6810, Rfc8210}
+use Rattle.message.specs.Version.{speaks, timesTold, endLength}
 use Rattle.message.specs.Message.{Message, cacheResponse, endOfData, pdu, pdus}
 use Rattle.message.specs.Message as message
 use Rattle.message.specs.Record.{Part, opening, payload, ending, misplaced, prefixOf, routerKeyOf, messageOf, flagsOf, flagged, payloadOf, goodRecord, partOf}
@@ -33,7 +33,7 @@ use Rattle.message.specs.Hear.{Told, Heard, Stop, ended, faulty, stopped, more,
 use Rattle.message.specs.Take.{asItem}
 use Rattle.router.specs.Send.{TimesFit, Sendable}
 use Rattle.router.specs.Heard.{X, Spoken, toldFrom}
-use Rattle.router.proofs.Trip.{trip}
+use Rattle.router.proofs.Trip.{end-trip, trip}
 
 -- ---- the record of a message is the record that it was made of
 
@@ -119,6 +119,7 @@ withdrawn-part : (k : Bytes) → goodRecord k ≡ true → payloadOf 0 k ≡ pay
 withdrawn-part k g = rw g
 
 aspa-unspoken : (v : Version) → speaks v 3 ≡ false
+aspa-unspoken Rfc6810 = refl
 aspa-unspoken Rfc8210 = refl
 
 unsaid : {A : Type 0} (v : Version) → speaks v 3 ≡ true → A
@@ -199,15 +200,15 @@ module _ (v : Version) (session serial : ℕ) (times : Timing) (h : session < 65
   few [] = let l = some-bytes v last in omega (arith, length-append (pdu v last) [])
   few (x ∷ xs) = omega (arith, length-append (pdu v (sayOf x)) (pdus v (map sayOf xs ++ (last ∷ []))), some-bytes v (sayOf x), few xs)
 
-  hear-end : (fuel at : ℕ) → hearF (suc fuel) v session at (pdus v (last ∷ [])) ≡ record { told = []; stop = ended session serial times }
+  hear-end : (fuel at : ℕ) → hearF (suc fuel) v session at (pdus v (last ∷ [])) ≡ record { told = []; stop = ended session serial (timesTold v times) }
   unfolding hearF pdus partOf
   hear-end fuel at =
-      ap (λ (z : Front). hearFront session at z (hearF fuel v session)) (trip v last [] (h, k, f))
+      ap (λ (z : Front). hearFront session at z (hearF fuel v session)) (end-trip v [] session serial times h k f)
       ∙ rw (eq-eqb session session refl)
 
   step : (fuel at : ℕ) (x : X) (xs : List X) → Spoken v x →
-      hearF fuel v session (at + length (pdu v (sayOf x))) (pdus v (map sayOf xs ++ (last ∷ []))) ≡ record { told = toldFrom v (at + length (pdu v (sayOf x))) xs; stop = ended session serial times } →
-      hearF (suc fuel) v session at (pdus v (map sayOf (x ∷ xs) ++ (last ∷ []))) ≡ record { told = toldFrom v at (x ∷ xs); stop = ended session serial times }
+      hearF fuel v session (at + length (pdu v (sayOf x))) (pdus v (map sayOf xs ++ (last ∷ []))) ≡ record { told = toldFrom v (at + length (pdu v (sayOf x))) xs; stop = ended session serial (timesTold v times) } →
+      hearF (suc fuel) v session at (pdus v (map sayOf (x ∷ xs) ++ (last ∷ []))) ≡ record { told = toldFrom v at (x ∷ xs); stop = ended session serial (timesTold v times) }
   unfolding hearF pdus
   step fuel at x xs s i =
       ap (λ (z : Front). hearFront session at z (hearF fuel v session)) (trip v (sayOf x) (pdus v (map sayOf xs ++ (last ∷ []))) (sendable v x s))
@@ -215,13 +216,13 @@ module _ (v : Version) (session serial : ℕ) (times : Timing) (h : session < 65
       ∙ ap (more (record { at = at; key = x .key; change = x .val })) i
 
   hear-items : (fuel at : ℕ) (xs : List X) → All (Spoken v) xs → length xs < fuel →
-      hearF fuel v session at (pdus v (map sayOf xs ++ (last ∷ []))) ≡ record { told = toldFrom v at xs; stop = ended session serial times }
+      hearF fuel v session at (pdus v (map sayOf xs ++ (last ∷ []))) ≡ record { told = toldFrom v at xs; stop = ended session serial (timesTold v times) }
   hear-items zero at xs s l = absurd (omega arith)
   hear-items (suc fuel) at [] s l = hear-end fuel at
   hear-items (suc fuel) at (x ∷ xs) s l = step fuel at x xs (s .0) (hear-items fuel (at + length (pdu v (sayOf x))) xs (s .1) (omega arith))
 
   pub hear-answer : (D : Delta Bytes Bytes) → All (Spoken v) (spoken v D) →
-      hear v (pdus v (answer v session serial times D)) ≡ record { told = toldFrom v 8 (spoken v D); stop = ended session serial times }
+      hear v (pdus v (answer v session serial times D)) ≡ record { told = toldFrom v 8 (spoken v D); stop = ended session serial (timesTold v times) }
   unfolding hear pdus partOf
   hear-answer D s =
       let rest : Bytes = pdus v (map sayOf (spoken v D) ++ (last ∷ [])) in

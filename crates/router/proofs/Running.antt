@@ -32,7 +32,7 @@ use Rattle.payload.specs.Valid.{IsMap}
 use Rattle.payload.proofs.Faithful.{faithful, entries-end}
 use Rattle.payload.proofs.Closed.{diff-map, merge-all-map}
 use Rattle.message.specs.declared.version.Version.{Version}
-use Rattle.message.specs.declared.version.Version.the-variants.{Rfc8210}
+use Rattle.message.specs.declared.version.Version.the-variants.{Rfc6810, Rfc8210}
 use Rattle.message.specs.Message.{cacheReset, pdu, pdus}
 use Rattle.message.specs.Say.{spoken, answer}
 use Rattle.message.specs.Take.{all}
@@ -130,6 +130,7 @@ query-passed v h s asked times snapshots deltas out t =
 
 -- the times handed out have four bytes
 times-fit : (v : Version) (times : Timing) → TimesFit v (timingOf times)
+times-fit Rfc6810 times = tt
 times-fit Rfc8210 times = let i = intervals times .allowed in (omega (arith, i .refresh-high), omega (arith, i .retry-high), omega (arith, i .expire-high))
 
 -- ---- what is heard of a difference

@@ -15,8 +15,8 @@ use Rattle.field.specs.Number.{two, four, twoAt, fourAt, twoBytes, fourBytes}
 use Rattle.field.specs.Places.{part}
 use Rattle.payload.specs.Content.{Bytes}
 use Rattle.message.specs.declared.version.Version.{Version}
-use Rattle.message.specs.declared.version.Version.the-variants.{Rfc8210}
-use Rattle.message.specs.Version.{versionNumber, speaks, timesBytes, timesIn, endLength}
+use Rattle.message.specs.declared.version.Version.the-variants.{Rfc6810, Rfc8210}
+use Rattle.message.specs.Version.{versionNumber, speaks, timesTold, timesBytes, timesIn, endLength}
 use Rattle.message.specs.Message.{Message, serialNotify, serialQuery, cacheResponse, ipv4Prefix, ipv6Prefix, endOfData, cacheReset, routerKey, errorReport, header, pdu}
 use Rattle.message.specs.Read.{errorIn, messageIn, Front, unread, read, frontOf, front}
 use Rattle.router.specs.Send.{TimesFit, Sendable}
@@ -58,7 +58,16 @@ header-front v type a b n body rest h e =
 
 end-long : (v : Version) (session serial : ℕ) (times : Timing) → endLength v ≡ length (pdu v (endOfData session serial times))
 unfolding pdu twoBytes fourBytes
+end-long Rfc6810 session serial times = refl
 end-long Rfc8210 session serial times = refl
+
+-- End of Data in RFC 6810
+end-trip-0 : (rest : Bytes) (session serial : ℕ) (times : Timing) → session < 65536 → serial < 2 ^ 32 →
+    front Rfc6810 (pdu Rfc6810 (endOfData session serial times) ++ rest) ≡ read (endOfData session serial (timesTold Rfc6810 times)) 12 rest
+unfolding pdu messageIn twoBytes fourBytes
+end-trip-0 rest session serial times h k =
+    header-front Rfc6810 7 (session / 256) (session % 256) 12 (fourBytes serial ++ timesBytes Rfc6810 times) rest (omega arith) refl
+    ∙ (λ i. read (endOfData (two-back session h i) (four-back serial k i) (timesTold Rfc6810 times)) 12 rest)
 
 -- End of Data in RFC 8210
 end-trip-1 : (rest : Bytes) (session serial : ℕ) (times : Timing) → session < 65536 → serial < 2 ^ 32 → TimesFit Rfc8210 times →
@@ -130,11 +139,13 @@ module _ (v : Version) (rest : Bytes) where
       header-front v 9 flags 0 n body rest (omega arith) (omega (arith, length-append identifier (asn ++ info), length-append asn info))
       ∙ rw (s, g) (λ i. read (routerKey flags (a i) (b i) (c i)) n rest)
 
-  end-trip : (session serial : ℕ) (times : Timing) → session < 65536 → serial < 2 ^ 32 → TimesFit v times →
-      front v (pdu v (endOfData session serial times) ++ rest) ≡ read (endOfData session serial times) (endLength v) rest
+  -- of the times, what is told is read
+  pub end-trip : (session serial : ℕ) (times : Timing) → session < 65536 → serial < 2 ^ 32 → TimesFit v times →
+      front v (pdu v (endOfData session serial times) ++ rest) ≡ read (endOfData session serial (timesTold v times)) (endLength v) rest
   end-trip session serial times h k t = go v t
     where
-      go : (u : Version) → TimesFit u times → front u (pdu u (endOfData session serial times) ++ rest) ≡ read (endOfData session serial times) (endLength u) rest
+      go : (u : Version) → TimesFit u times → front u (pdu u (endOfData session serial times) ++ rest) ≡ read (endOfData session serial (timesTold u times)) (endLength u) rest
+      go Rfc6810 f = end-trip-0 rest session serial times h k
       go Rfc8210 f = end-trip-1 rest session serial times h k f
 
 -- ---- an Error Report
@@ -243,7 +254,8 @@ trip v (ipv6Prefix flags p m address asn) rest h =
     ipv6-trip v rest flags p m address asn (h .0) (h .1)
     ∙ ap (λ (n : ℕ). read (ipv6Prefix flags p m address asn) n rest) (omega (arith, length-append address asn, h .0, h .1))
 trip v (endOfData session serial times) rest h =
-    end-trip v rest session serial times (h .0) (h .1) (h .2) ∙ ap (λ (n : ℕ). read (endOfData session serial times) n rest) (end-long v session serial times)
+    end-trip v rest session serial times (h .0) (h .1) (h .2)
+    ∙ ap₂ (λ (t : Timing) (n : ℕ). read (endOfData session serial t) n rest) (h .3) (end-long v session serial times)
 trip v cacheReset rest h = reset-trip v rest
 trip v (routerKey flags identifier asn info) rest h =
     key-trip v rest flags identifier asn info (h .0) (h .1) (h .2) (h .3)

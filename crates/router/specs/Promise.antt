@@ -14,6 +14,7 @@ use Rattle.serial.specs.Timing.{timingOf}
 use Rattle.payload.specs.Content.{Bytes}
 use Rattle.payload.specs.Payload as payload
 use Rattle.message.specs.declared.version.Version.{Version}
+use Rattle.message.specs.Version.{timesTold}
 use Rattle.message.specs.Say.{spoken}
 use Rattle.message.specs.Hear.{Told, ended, hear}
 use Rattle.message.specs.Take as router
@@ -26,10 +27,10 @@ use Rattle.wire.specs.declared.tally.Tally.{Tally}
 use Rattle.wire.specs.declared.sent.Reply.the-variants.{Data}
 use Rattle.wire.specs.Answer.{Plan, sentAt, outAt, queryPlan, fullPlan}
 
--- what is read: these items as far as the version speaks of their kinds, in order, each once; then the session, the serial and the times
+-- what is read: these items as far as the version speaks of their kinds, in order, each once; then the session, the serial and what is told of the times
 pub record Reads (v : Version) (session : ℕ) (serial : Serial) (times : Timing) (D : Delta Bytes Bytes) (messages : Bytes) : Type 0 where
   pub told : List Told
-  pub heard : hear v messages ≡ record { told = told; stop = ended (session % 65_536) (serial .0) (timingOf times) }
+  pub heard : hear v messages ≡ record { told = told; stop = ended (session % 65_536) (serial .0) (timesTold v (timingOf times)) }
   pub items : map asItem told ≡ spoken v D
 
 -- and that, taken one after another on what the version speaks of one snapshot, leaves what it speaks of another

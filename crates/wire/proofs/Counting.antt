@@ -23,7 +23,7 @@ use Rattle.item.specs.declared.place.Act.{Act}
 use Rattle.item.specs.declared.place.Act.the-variants.{Announce, Withdraw, Update}
 use Rattle.item.specs.Place.{changeIn, itemIn}
 use Rattle.message.specs.declared.version.Version.{Version}
-use Rattle.message.specs.declared.version.Version.the-variants.{Rfc8210}
+use Rattle.message.specs.declared.version.Version.the-variants.{Rfc6810, Rfc8210}
 use Rattle.message.specs.Version.{speaks}
 use Rattle.message.specs.Message.{pdu}
 use Rattle.message.specs.Record.{messageOf, flagsOf}
@@ -35,9 +35,11 @@ use Rattle.wire.proofs.Saying.{X, tally-path, said-one, sum-one, skippe
 -- ---- what a version speaks of
 
 pub origins-spoken : (v : Version) → speaks v 1 ≡ true
+origins-spoken Rfc6810 = refl
 origins-spoken Rfc8210 = refl
 
 pub aspas-unspoken : (v : Version) → speaks v 3 ≡ false
+aspas-unspoken Rfc6810 = refl
 aspas-unspoken Rfc8210 = refl
 
 -- ---- valid keys

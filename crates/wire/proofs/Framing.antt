@@ -16,7 +16,7 @@ use Rattle.field.specs.Number.{twoBytes, fourBytes}
 use Rattle.payload.specs.Content.{Bytes}
 use Rattle.item.proofs.Sinking.{sets-append}
 use Rattle.message.specs.declared.version.Version.{Version}
-use Rattle.message.specs.declared.version.Version.the-variants.{Rfc8210}
+use Rattle.message.specs.declared.version.Version.the-variants.{Rfc6810, Rfc8210}
 use Rattle.message.specs.Version.{endLength}
 use Rattle.message.specs.Message.{cacheResponse, endOfData, pdu, pdus}
 use Rattle.message.specs.Say.{said}
@@ -42,6 +42,7 @@ pub open-put : (v : Version) (f : Frame) (o p : Bytes) → p ≡ sets o 0 (pdu v
 open-put v f o p e = record { same = ap length e ∙ length-sets o 0 (pdu v (cacheResponse (f .session .0))); laid = λ g. e }
 
 pub end-low : (v : Version) → endLength v ≤ 24
+end-low Rfc6810 = omega arith
 end-low Rfc8210 = omega arith
 
 module _ (v : Version) (f : Frame) (t : Tally) (n : ℕ) (e : n ≡ endLength v) where
@@ -77,6 +78,7 @@ response-long v s = refl
 
 end-long : (v : Version) (s n : ℕ) (t : Timing) → length (pdu v (endOfData s n t)) ≡ endLength v
 unfolding pdu twoBytes fourBytes
+end-long Rfc6810 s n t = refl
 end-long Rfc8210 s n t = refl
 
 module _ (v : Version) (f : Frame) (d : D) where

@@ -202,7 +202,9 @@ impl Judge {
         use Entry::*;
         let mut wanted: Vec<(Entry, u32, u32)> = vec![(Apply, 3, 2), (Create, 8, 0), (Full, 7, 0)];
         for entry in [Construct, Merge, Apply] {
-            wanted.extend([(1, 1), (1, 2), (2, 1), (2, 2), (12, 1), (12, 2), (4, 0)].map(|(n, a)| (entry, n, a)));
+            wanted.extend(
+                [(1, 1), (1, 2), (2, 1), (2, 2), (12, 1), (12, 2), (4, 0)].map(|(n, a)| (entry, n, a)),
+            );
         }
         wanted.extend([(1, 1), (2, 1), (12, 1), (7, 0), (9, 0)].map(|(n, a)| (Update, n, a)));
         wanted.extend([4, 5, 6, 7].map(|n| (Query, n, 0)));
@@ -218,7 +220,9 @@ impl Judge {
                 assert!(self.pairs.contains(&(kind, e, l)), "not met: the pair {:?}", (kind, e, l));
             }
         }
-        for entry in [Construct, Merge, Apply, Update, Query, QueryMessages, FullMessages, NotifyMessage, Judge] {
+        for entry in
+            [Construct, Merge, Apply, Update, Query, QueryMessages, FullMessages, NotifyMessage, Judge]
+        {
             assert!(self.exact.contains(&entry), "not met: exact room of {entry:?}");
         }
         for keep in crate::list::KEEPS.iter().copied() {

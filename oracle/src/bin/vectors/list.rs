@@ -106,7 +106,12 @@ pub fn cases() -> String {
     list.part("judge", "answers of other caches, most of them damaged, at times short of room");
     for i in 0..300 {
         let universe = Universe::few(&mut rng, 2 + i % 12);
-        list.judge(&mut rng, &universe, i);
+        list.judge(&mut rng, 1, &universe, i);
+    }
+    list.part("judge-0", "answers in version 0, and a few of version 1 to one who asked in version 0");
+    for i in 0..150 {
+        let universe = Universe::few(&mut rng, 2 + i % 12);
+        list.judge(&mut rng, 0, &universe, i);
     }
     list.text
 }
@@ -120,7 +125,11 @@ impl List {
             _ => ("apply", "-".into()),
         };
         let [first, second, out] = &call.bytes;
-        self.line(name, &[out.len().to_string(), serial, pack(first), pack(second)]);
+        let words = [out.len().to_string(), serial, pack(first), pack(second)];
+        match call.entry {
+            Entry::Judge => self.line(name, &[&[call.version.to_string()][..], &words].concat()),
+            _ => self.line(name, &words),
+        }
     }
 
     fn random(&mut self, rng: &mut Rng, universe: &Universe, i: usize) {
@@ -161,14 +170,15 @@ impl List {
         self.entry(&call);
     }
 
-    fn judge(&mut self, rng: &mut Rng, universe: &Universe, i: usize) {
+    fn judge(&mut self, rng: &mut Rng, version: u8, universe: &Universe, i: usize) {
         let held = universe.snapshot(rng);
-        let messages = answers::good(rng, universe, &held);
+        let said = if i % 25 == 24 { 1 } else { version };
+        let messages = answers::good(rng, said, universe, &held);
         let bytes = if i % 4 == 0 { messages.concat() } else { answers::damage(rng, &messages).1 };
         let held = model::snapshot_bytes(&held);
         let held = if i % 30 == 29 { damage(rng, Form::Snapshot, &held).1 } else { held };
         if held.len() + bytes.len() < 1500 {
-            let mut call = Call::judge(held, bytes, vec![]);
+            let mut call = Call::judge(version.into(), held, bytes, vec![]);
             call.bytes[2] = room(rng, &call);
             self.entry(&call);
         }
@@ -216,7 +226,9 @@ pub fn runs() -> String {
     list.part("keep", "histories filled, and two updates more");
     KEEPS.iter().for_each(|keep| list.keep(*keep));
     list.part("started", "serials that cross the wrap, or the middle");
-    for start in [0, 0x7FFF_FFFB, 0x7FFF_FFFD, 0x7FFF_FFFF, 0xFFFF_FFFA, 0xFFFF_FFFB, 0xFFFF_FFFD, 0xFFFF_FFFF] {
+    for start in
+        [0, 0x7FFF_FFFB, 0x7FFF_FFFD, 0x7FFF_FFFF, 0xFFFF_FFFA, 0xFFFF_FFFB, 0xFFFF_FFFD, 0xFFFF_FFFF]
+    {
         list.started(start);
     }
     list.part("history", "updates with queries after each; serials from 0 or from another start");
@@ -232,7 +244,12 @@ pub fn runs() -> String {
     list.part("messages", "router messages of histories by construction, at times not well formed");
     for i in 0..80 {
         let universe = Universe::few(&mut rng, 3 + i % 4);
-        list.messages(&mut rng, &universe);
+        list.messages(&mut rng, 1, &universe);
+    }
+    list.part("messages-0", "the same in version 0");
+    for i in 0..40 {
+        let universe = Universe::few(&mut rng, 3 + i % 4);
+        list.messages(&mut rng, 0, &universe);
     }
     list.text
 }
@@ -360,7 +377,7 @@ impl List {
         Some(rooms)
     }
 
-    fn messages(&mut self, rng: &mut Rng, universe: &Universe) {
+    fn messages(&mut self, rng: &mut Rng, version: u32, universe: &Universe) {
         let mut world = World::new(rng, universe);
         if rng.one_in(8) {
             ill_form(rng, &mut world);
@@ -375,16 +392,17 @@ impl List {
         for d in [0, 1, state.n, state.n.wrapping_add(1)] {
             let session = if rng.one_in(6) { rng.next() } else { state.session } as u16;
             let serial = state.newest.wrapping_sub(d);
-            let room = needed(rng, world.query_messages(session, serial, asked));
+            let room = needed(rng, world.query_messages(version, session, serial, asked));
+            let (session, serial) = (session.into(), serial.into());
             self.line(
                 "query-messages",
-                &words([session.into(), serial.into(), refresh, retry, expire, room]),
+                &words([version.into(), session, serial, refresh, retry, expire, room]),
             );
         }
-        let room = needed(rng, world.full_messages(asked));
-        self.line("full-messages", &words([refresh, retry, expire, room]));
-        let room = needed(rng, Call::notify_message(state, vec![]));
-        self.line("notify-message", &words([room]));
+        let room = needed(rng, world.full_messages(version, asked));
+        self.line("full-messages", &words([version.into(), refresh, retry, expire, room]));
+        let room = needed(rng, Call::notify_message(version, state, vec![]));
+        self.line("notify-message", &words([version.into(), room]));
     }
 
     fn formed(&mut self, rng: &mut Rng, universe: &Universe) {

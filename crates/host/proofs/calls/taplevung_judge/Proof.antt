@@ -3,6 +3,9 @@ use Rattle.host.proofs.Judging.{judging}
 use Rattle.host.proofs.calls.taplevung_judge.Statement.{statement}
 use Rattle.host.proofs.calls.taplevung_judge.Tie as tie
 
+version-of-requires : tie.Need-version-of-requires
+version-of-requires c κs = search (judging, needs)
+
 judge-requires : tie.Need-judge-requires
 judge-requires c κs = search (judging, needs)
 
@@ -16,4 +19,5 @@ returns : tie.Need-returns
 returns c = search (judging, needs)
 
 pub taplevung-judge-spec : {M : Type 1} → statement M
-taplevung-judge-spec = tie.close (tie.spec judge-requires judged-as-requires same-length returns)
+taplevung-judge-spec =
+    tie.close (tie.spec version-of-requires judge-requires judged-as-requires same-length returns)
