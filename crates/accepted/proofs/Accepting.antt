@@ -42,15 +42,14 @@ use Rattle.judge.proofs.Results.{onward-spoken, onward-unspoken, onward-whole, 
 use Rattle.past.specs.Run.{Run, Call, startOf, runOf, carried}
 use Rattle.past.specs.Promise.{serialIn, current, Promise}
 use Rattle.past.proofs.Runs.{promise}
+use Rattle.past.proofs.Given.{given-acceptable, given-good, all-carried, good-current}
 use Rattle.past.proofs.Steps.{fine-admitted}
 use Rattle.wire.specs.declared.tally.Tally.{Tally}
 use Rattle.wire.specs.declared.sent.Reply.the-variants.{Data}
 use Rattle.wire.specs.Answer.{sentAt}
 use Rattle.router.specs.Promise.{Reads, LeadsOn, Home, queryIn, fullIn, written, Wire}
-use Rattle.router.proofs.Given.{given-good, all-carried, good-current}
 use Rattle.router.proofs.Running.{wire}
 use Rattle.accepted.specs.Accepted.{Accepts, Judged, EveryJudged}
-use Rattle.accepted.proofs.Given.{given-acceptable}
 
 -- the items that a version speaks of are valid if all are
 spoken-valid : (v : Version) (D : change.Delta Bytes Bytes) → All (Valid Delta) D → All (Valid Delta) (spoken v D)

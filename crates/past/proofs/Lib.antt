@@ -12,4 +12,5 @@ pub mod Runs
 pub mod Start
 pub mod Marked
 pub mod Examples
+pub mod Given
 pub mod Shortest

@@ -2,5 +2,4 @@ pub mod Trip
 pub mod Heard
 pub mod Routers
 pub mod Octets
-pub mod Given
 pub mod Running

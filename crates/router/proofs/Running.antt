@@ -51,7 +51,7 @@ use Rattle.past.specs.Run.{World, Call, Reply, noticed, updated, queried, fully
 use Rattle.past.specs.Promise.{serialIn, current, queriedIn, writtenIn, Promise, Leads}
 use Rattle.past.proofs.Lists.{all-map}
 use Rattle.past.proofs.Runs.{promise}
-use Rattle.router.proofs.Given.{given-good, all-carried, good-current}
+use Rattle.past.proofs.Given.{given-good, all-carried, good-current}
 use Rattle.history.specs.Place.{IsFine}
 use Rattle.history.proofs.Asking.{formed-stored}
 use Rattle.wire.specs.declared.tally.Tally.{Tally}

@@ -5,3 +5,4 @@ pub mod Running
 pub mod Framing
 pub mod Sizing
 pub mod Sending
+pub mod Examples
