@@ -11,7 +11,7 @@ use Rattle.payload.specs.Content.{Bytes}
 use Rattle.item.specs.declared.place.Act.{Act}
 use Rattle.item.specs.declared.sink.Counts.{Counts}
 use Rattle.item.specs.Place.{changeIn, itemIn, ActFits, KeyIn}
-use Rattle.item.specs.Write.{fieldAs, writes, plusItem, plusAll, zero, Room}
+use Rattle.item.specs.Write.{fieldAs, writes, plusItem, plusAll, zero, Countable}
 use Rattle.walk.proofs.Walking.{Left-over, none-counts, none-bytes, left-one, one-small, announces-one, withdraws-one, whole-long, whole-long-bytes, whole-fits, whole-bytes}
 use Rattle.cursors.specs.declared.next.Step.{Step}
 use Rattle.cursors.specs.declared.next.Step.the-variants.{End, Item}
@@ -54,7 +54,7 @@ module _ (s : Bytes) (at₀ ends f₀ : List ℕ) (from n : ℕ) (o₀ : Bytes) 
   pub put-walks : Walks s at ends from n
   put-walks = i .walks
 
-  pub put-room : Room c
+  pub put-room : Countable c
   put-room = record { len = omega (arith, i .len); announced = omega (arith, i .announced); withdrawn = omega (arith, i .withdrawn) }
 
   module _ (at′ : List ℕ) (r : Step) (x : NextIs s at at′ ends from n r) where

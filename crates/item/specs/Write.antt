@@ -28,7 +28,7 @@ fieldAs form x = run.field (cellAs form x .tag) (cellAs form x .body)
 
 -- all of them, one behind the other
 abbrev pub writes : Form → change.Delta Bytes Bytes → Bytes
-writes form D = run.encode (map (cellAs form) D)
+writes form D = run.cellBytes (map (cellAs form) D)
 
 -- the counts with one item more, and with many
 abbrev pub plusItem : Form → Counts → Item Bytes (Change Bytes) → Counts
@@ -64,7 +64,7 @@ abbrev pub zero : Counts
 zero = record { len = 0; announced = 0; withdrawn = 0 }
 
 -- one more item can be counted
-pub record Room (c : Counts) : Type 0 where
+pub record Countable (c : Counts) : Type 0 where
   pub len : c .len < 2 ^ 62
   pub announced : c .announced < 2 ^ 62
   pub withdrawn : c .withdrawn < 2 ^ 62

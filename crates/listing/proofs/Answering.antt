@@ -18,6 +18,7 @@ use Rattle.field.specs.declared.verdict.Verdict.the-variants.{Fine}
 use Rattle.field.specs.Head.{front}
 use Rattle.field.specs.Verdict.{judge, verdictF, verdict}
 use Rattle.payload.specs.Content.{Bytes}
+use Rattle.payload.specs.Written.{writtenOver}
 use Rattle.payload.specs.Payload.{changes}
 use Rattle.payload.proofs.Faithful.{faithful, entries-end}
 use Rattle.delta.specs.declared.refusal.Refusal.{Refusal}
@@ -196,7 +197,7 @@ module _ (old new d : Bytes) where
   answer = constructOf old new (record { 0 = 0 }) (length d)
 
   module _ (s : Serial) (c : Counts) (e : answer ≡ constructed.Delta s c) where
-    out-is : constructOut old new d ≡ D ++ drop (length D) d
+    out-is : constructOut old new d ≡ writtenOver D d
     unfolding constructOut
     out-is = let m = made old new (length d) s c e in rw (m .admitted, le-leb (length D) (length d) (m .fits))
 

@@ -50,10 +50,11 @@ use Rattle.past.specs.Create.{createAt, createOf}
 use Rattle.past.specs.Update.{Step, refuse, first, unchanged, add, stepFor, updateAt, updateOf, snapshotsAt, updateSnapshots, deltasAt, updateDeltas}
 use Rattle.past.specs.Query.{isServed, isSession, mergedLast, answerOf, servedWith, queryOut}
 use Rattle.past.specs.Full.{fullOf, notifyOf, readyOf}
-use Rattle.past.specs.Run.{World, Call, update, query, full, notify, ready, queried, fully, noticed, isReady, replyOf, lentTo, leftIn, stepOf, refusedUpdate, refusedAnswer, numbered, refusedAs, refusal, Run, startOf, runOf, carried}
+use Rattle.past.specs.Run.{World, Call, update, query, full, notify, ready, queried, fully, noticed, isReady, replyOf, lentTo, leftIn, stepOf, refusedUpdate, refusedAnswer, numbered, refusedAs, refusal, Reached, startOf, runOf, carried}
 use Rattle.past.specs.Promise.{OfBytes, changesIn, serialIn, InRule, due, Leads, current, writtenIn, queriedIn, Promise, EveryRun}
 use Rattle.past.proofs.Lists.{map-lastN, map-newest, map-nth, all-map}
-use Rattle.delta.specs.Demand.{GoodSnapshot, holding}
+use Rattle.delta.specs.Demand.{GoodSnapshot}
+use Rattle.payload.specs.Written.{writtenOver}
 use Rattle.delta.proofs.Differences.{good-map, difference-applies, difference-fits, difference-yields}
 use Rattle.past.proofs.Served.{served-rule, rule-served, rule-within, carried-back}
 use Rattle.past.proofs.Steps.{step-seven, refused-step}
@@ -158,7 +159,7 @@ module _ {session keep : ℕ} {start : Serial} {w : World} {S : Bytes} {Ts : Lis
 
 -- before the first snapshot nothing is due
 waits-due : {session keep : ℕ} {start : Serial} {w : World} → Waits session keep start w → (asked : Serial) → answerOf (w .history) asked (w .deltas) ≡ []
-unfolding mergedLast encode run.encode
+unfolding mergedLast encode run.cellBytes
 waits-due {w = w} i asked = rw (i .count, drop-nil (0 - distanceOf (w .history .newest) asked))
 
 queried-path : {a b : Queried} {x y : Bytes} → a ≡ b → x ≡ y → queried a x ≡ queried b y
@@ -207,7 +208,7 @@ start-inv session keep start snapshots deltas bound = go (goodKeep keep) refl (l
     go true p false q v r e = refusal e
     go false p u q v r e = refusal e
 
-run-inv : (session keep : ℕ) (start : Serial) (r : Run) (calls : List Call) → All OfBytes calls → Inv session keep start (r .world) (r .given) →
+run-inv : (session keep : ℕ) (start : Serial) (r : Reached) (calls : List Call) → All OfBytes calls → Inv session keep start (r .world) (r .given) →
     Inv session keep start (runOf r calls .world) (runOf r calls .given)
 run-inv session keep start r [] o i = i
 run-inv session keep start r (c ∷ calls) o i = run-inv session keep start _ calls (o .1) (call-inv session keep start (r .world) (r .given) c (o .0) i)
@@ -312,7 +313,7 @@ module _ (session keep : ℕ) (start : Serial) (w : World) where
     inv-serves : (s : Session) (asked : Serial) (out : Bytes) → asked .0 < 2 ^ 32 → s .0 ≡ session % 65_536 → InRule keep start given asked →
         length (due w start given asked) ≤ length out →
         replyOf w (query s asked out)
-        ≡ queried (record { session = sessionOf session; serial = serialIn start given; answer = answers.Served (countsOf (due w start given asked)) }) (holding (due w start given asked) out)
+        ≡ queried (record { session = sessionOf session; serial = serialIn start given; answer = answers.Served (countsOf (due w start given asked)) }) (writtenOver (due w start given asked) out)
     inv-serves s asked out l e r k =
         let v = rule-of asked .1 r in
         let d = inv-due asked l v in
@@ -320,7 +321,7 @@ module _ (session keep : ℕ) (start : Serial) (w : World) where
         let p = queries.serves (w .history) s asked (w .snapshots) (w .deltas) (length out) formed (same-session s ∙ eq-eqb (s .0) (session % 65_536) e) v m in
         queried-path (p ∙ served-path same-name (inv-serial given i) d)
         (queries.out-whole (w .history) s asked (w .snapshots) (w .deltas) out (countsOf (answerOf (w .history) asked (w .deltas))) (ap (λ (a : Queried). a .answer) p)
-        ∙ ap (λ (x : Bytes). holding x out) d)
+        ∙ ap (λ (x : Bytes). writtenOver x out) d)
 
     inv-ordered : (s : Session) (asked : Serial) (out : Bytes) (c : Counts) → asked .0 < 2 ^ 32 → queriedIn w s asked (length out) .answer ≡ answers.Served c →
         (standing asked (serialIn start given) ≡ Equal) ⊎ (standing asked (serialIn start given) ≡ Before)
@@ -376,7 +377,7 @@ promise session keep start snapshots deltas bound done calls octets =
     go (runOf (startOf session keep start snapshots deltas) calls)
     (run-inv session keep start (startOf session keep start snapshots deltas) calls octets (start-inv session keep start snapshots deltas bound done))
   where
-    go : (r : Run) → Inv session keep start (r .world) (r .given) → Promise session keep start r
+    go : (r : Reached) → Inv session keep start (r .world) (r .given) → Promise session keep start r
     go r i = record {
       formed = formed session keep start (r .world) (r .given) i;
       no-seven = formed-seven (r .world) (formed session keep start (r .world) (r .given) i);

@@ -28,7 +28,8 @@ use Rattle.item.specs.declared.sink.Counts.{Counts}
 use Rattle.walk.specs.Fit.{fitOf}
 use Rattle.delta.specs.Refusal.{Values}
 use Rattle.delta.specs.Answer.{differenceOf, appliedOf, countsOf}
-use Rattle.delta.specs.Demand.{Acceptable, holding}
+use Rattle.delta.specs.Demand.{Acceptable}
+use Rattle.payload.specs.Written.{writtenOver}
 use Rattle.past.specs.declared.create.Creation.{Creation}
 use Rattle.past.specs.declared.create.Creation.the-variants as creation
 use Rattle.past.specs.declared.update.Update.the-variants.{First, Unchanged, Changed}
@@ -39,7 +40,7 @@ use Rattle.past.specs.Store.{total, heldSnapshot}
 use Rattle.past.specs.WellFormed.{wellFormed}
 use Rattle.past.specs.Create.{freshOf, createOf}
 use Rattle.past.specs.Query.{queryOf, queryOut}
-use Rattle.past.specs.Run.{World, Call, update, query, full, notify, ready, updated, queried, fully, noticed, isReady, replyOf, lentTo, leftIn, stepOf, numbered, refusedAs, refusal, Run, startOf, runOf, carried}
+use Rattle.past.specs.Run.{World, Call, update, query, full, notify, ready, updated, queried, fully, noticed, isReady, replyOf, lentTo, leftIn, stepOf, numbered, refusedAs, refusal, Reached, startOf, runOf, carried}
 
 -- the new snapshot of an update is a list of bytes, good or not; of other calls nothing is asked
 abbrev pub OfBytes : Call → Type 0
@@ -150,7 +151,7 @@ pub record Creates (session keep : ℕ) (start : Serial) (snapshots deltas : Byt
   pub done : (1 ≤ keep) → (keep ≤ 64) → (length snapshots ≤ limit Snapshot) → (length deltas ≤ limit Delta) →
       createOf session keep start snapshots deltas ≡ record { answer = creation.Done; history = freshOf session keep start }
 
-pub record Promise (session keep : ℕ) (start : Serial) (r : Run) : Type 0 where
+pub record Promise (session keep : ℕ) (start : Serial) (r : Reached) : Type 0 where
   -- the history stays well formed with its stores, so that refusal 7 never comes
   pub formed : wellFormed (r .world .history) (r .world .snapshots) (r .world .deltas) ≡ true
   pub no-seven : (c : Call) → ¬ (refusedAs (replyOf (r .world) c) ≡ refusal 7 0 0)
@@ -177,7 +178,7 @@ pub record Promise (session keep : ℕ) (start : Serial) (r : Run) : Type 0 wher
       length (due (r .world) start (r .given) asked) ≤ length out →
       replyOf (r .world) (query s asked out)
       ≡ queried (record { session = sessionOf session; serial = serialIn start (r .given); answer = Served (countsOf (due (r .world) start (r .given) asked)) })
-      (holding (due (r .world) start (r .given) asked) out)
+      (writtenOver (due (r .world) start (r .given) asked) out)
   -- a served query's answer names the 16-bit session and F, and the length and counts of what it has written
   pub names : (s : Session) (asked : Serial) (out : Bytes) (c : Counts) → queriedIn (r .world) s asked (length out) .answer ≡ Served c →
       (queriedIn (r .world) s asked (length out) .session ≡ sessionOf session) × (queriedIn (r .world) s asked (length out) .serial ≡ serialIn start (r .given))

@@ -35,7 +35,3 @@ heldDeltas h deltas = cuts (heldLengths h) deltas
 -- the 64 lengths for these deltas: unused ones are 0
 abbrev pub lengthsOf : List Bytes → List ℕ
 lengthsOf ds = map length ds ++ replicate (64 - length ds) 0
-
--- a store that holds s afterwards: its bytes past them stay as they were
-abbrev pub storeAfter : Bytes → Bytes → Bytes
-storeAfter s store = s ++ drop (length s) store

@@ -16,7 +16,8 @@ use Rattle.delta.specs.Answer.{differenceOf, countsOf}
 use Rattle.past.specs.declared.state.History.{History}
 use Rattle.past.specs.declared.update.Update.the-variants.{First, Unchanged, Changed, Refused}
 use Rattle.past.specs.declared.update.Updated.{Updated}
-use Rattle.past.specs.Store.{total, joined, heldSnapshot, heldDeltas, lengthsOf, storeAfter}
+use Rattle.past.specs.Store.{total, joined, heldSnapshot, heldDeltas, lengthsOf}
+use Rattle.payload.specs.Written.{writtenOver}
 use Rattle.past.specs.WellFormed.{wellFormed}
 
 -- what an update does: it is refused, is the first, changes nothing, or adds a delta
@@ -95,9 +96,9 @@ updateOf h new snapshots deltas = updateAt (stepFor h new snapshots deltas) h ne
 -- the snapshot store afterwards
 abbrev pub snapshotsAt : Step → Bytes → Bytes → Bytes
 snapshotsAt (refuse r) new snapshots = snapshots
-snapshotsAt first new snapshots = storeAfter new snapshots
+snapshotsAt first new snapshots = writtenOver new snapshots
 snapshotsAt unchanged new snapshots = snapshots
-snapshotsAt (add d) new snapshots = storeAfter new snapshots
+snapshotsAt (add d) new snapshots = writtenOver new snapshots
 
 unfoldable pub updateSnapshots : History → Bytes → Bytes → Bytes → Bytes
 updateSnapshots h new snapshots deltas = snapshotsAt (stepFor h new snapshots deltas) new snapshots
@@ -107,7 +108,7 @@ abbrev pub deltasAt : Step → History → Bytes → Bytes
 deltasAt (refuse r) h deltas = deltas
 deltasAt first h deltas = deltas
 deltasAt unchanged h deltas = deltas
-deltasAt (add d) h deltas = storeAfter (joined (deltasWith h deltas d)) deltas
+deltasAt (add d) h deltas = writtenOver (joined (deltasWith h deltas d)) deltas
 
 unfoldable pub updateDeltas : History → Bytes → Bytes → Bytes → Bytes
 updateDeltas h new snapshots deltas = deltasAt (stepFor h new snapshots deltas) h deltas

@@ -4,7 +4,7 @@ use mathlib.Core.List.{List}
 use mathlib.Core.Bool.{Bool, true, false, cond}
 use Rattle.field.specs.declared.head.Field.{Field}
 use Rattle.field.specs.declared.head.Field.the-variants.{End, Cut, Whole}
-use Rattle.payload.specs.Count.{isAnnounced, isWithdrawn, announced, withdrawn}
+use Rattle.payload.specs.Count.{isAnnounced, isWithdrawn, announcedIn, withdrawnIn}
 use Rattle.reader.specs.declared.count.Tally.{Tally}
 
 -- the end, or a field that is cut short: no field follows
@@ -21,7 +21,7 @@ abbrev pub withdrawsTag : ℕ → ℕ
 withdrawsTag tag = cond (isWithdrawn tag) 1 0
 
 -- one more can be counted
-pub record Room (c : Tally) : Type 0 where
+pub record Countable (c : Tally) : Type 0 where
   pub announced : c .announced + 1 < 2 ^ 64
   pub withdrawn : c .withdrawn + 1 < 2 ^ 64
 
@@ -33,4 +33,4 @@ plusField c (Whole tag from to) = record { announced = c .announced + announcesT
 
 -- the counts of a delta's fields
 abbrev pub tallyOf : List ℕ → Tally
-tallyOf s = record { announced = announced s; withdrawn = withdrawn s }
+tallyOf s = record { announced = announcedIn s; withdrawn = withdrawnIn s }

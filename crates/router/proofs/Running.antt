@@ -27,6 +27,7 @@ use Rattle.serial.proofs.Bounds.{intervals}
 use Rattle.field.specs.declared.tag.Form.the-variants.{Snapshot, Delta}
 use Rattle.field.specs.Cells as run
 use Rattle.payload.specs.Content.{Bytes}
+use Rattle.payload.specs.Written.{writtenOver}
 use Rattle.payload.specs.Payload.{entries, encode, items, changes}
 use Rattle.payload.specs.Valid.{IsMap}
 use Rattle.payload.proofs.Faithful.{faithful, entries-end}
@@ -47,7 +48,7 @@ use Rattle.past.specs.Store.{cuts, heldDeltas}
 use Rattle.past.specs.WellFormed.{wellFormed}
 use Rattle.past.specs.Query.{isServed, isSession, mergedLast, answerOf, queryOf, queryOut}
 use Rattle.past.specs.Full.{notifyOf}
-use Rattle.past.specs.Run.{World, Call, Reply, noticed, updated, queried, fully, isReady, Run, startOf, runOf, carried}
+use Rattle.past.specs.Run.{World, Call, Reply, noticed, updated, queried, fully, isReady, Reached, startOf, runOf, carried}
 use Rattle.past.specs.Promise.{serialIn, current, queriedIn, writtenIn, Promise, Leads}
 use Rattle.past.proofs.Lists.{all-map}
 use Rattle.past.proofs.Runs.{promise}
@@ -60,7 +61,7 @@ use Rattle.wire.specs.declared.sent.Reply.the-variants.{Data, Reset, Report}
 use Rattle.wire.specs.Answer.{Plan, refuse, aside, refusedWith, reportBytes, frameOf, answerBytes, tallyOf, sentAt, outAt, dataPlan, resetPlan, reportPlan, changesSince, queryPlan, allNew, fullPlan}
 use Rattle.router.specs.Send.{TimesFit}
 use Rattle.router.specs.Heard.{Spoken, toldFrom}
-use Rattle.router.specs.Promise.{Reads, LeadsOn, Home, queryIn, fullIn, written, Wire, EveryWire}
+use Rattle.router.specs.Promise.{HeardAs, LeadsOn, Home, queryIn, fullIn, written, Wire, EveryWire}
 use Rattle.router.proofs.Heard.{hear-answer, told-items}
 use Rattle.router.proofs.Routers.{router-takes, spoken-all}
 use Rattle.router.proofs.Octets.{item-bytes, diff-bytes}
@@ -76,7 +77,7 @@ module _ (v : Version) (f : Frame) (D : change.Delta Bytes Bytes) (out : Bytes) 
   data-written = go (leb (length whole) (length out))
     where
       go : (b : Bool) → (cond b (record { session = f .session; serial = f .serial; reply = Data (tallyOf v whole D) }) (refusedWith NoRoom)) .reply ≡ Data t →
-          take (t .len) (cond b (whole ++ drop (length whole) out) out) ≡ whole
+          take (t .len) (cond b (writtenOver whole out) out) ≡ whole
       go true h = let e : tallyOf v whole D ≡ t = cc in take-at whole (drop (length whole) out) (t .len) (ap (λ (x : Tally). x .len) e)
       go false h = absurd (let z : _≡_ {A = ℕ} 0 1 = cc in omega arith)
 
@@ -191,7 +192,7 @@ named (fully f) = record { 0 = 0 }
 named (noticed n) = n .session
 named (isReady active) = record { 0 = 0 }
 
-module _ (v : Version) (session keep : ℕ) (start : Serial) (r : Run) (p : Promise session keep start r) (goods : All GoodSnapshot (r .given)) (times : Timing) where
+module _ (v : Version) (session keep : ℕ) (start : Serial) (r : Reached) (p : Promise session keep start r) (goods : All GoodSnapshot (r .given)) (times : Timing) where
   abbrev w : World
   w = r .world
 
@@ -254,7 +255,7 @@ module _ (v : Version) (session keep : ℕ) (start : Serial) (r : Run) (p : Prom
       go false q = refuse-no IllFormed (length out) t q
 
   nothing-good : GoodSnapshot []
-  unfolding encode run.encode
+  unfolding encode run.cellBytes
   nothing-good = record { octets = λ i. omega arith; fine = faithful Snapshot .good-bytes [] (record { sorted = tt; valid = tt }) }
 
   full-home : (out : Bytes) (t : Tally) → ¬ (r .given ≡ []) → sentAt (fullIn v w times) (length out) .reply ≡ Data t →
@@ -273,7 +274,7 @@ wire v session keep start snapshots deltas bound done calls octets =
     (promise session keep start snapshots deltas bound done calls octets)
     (given-good (startOf session keep start snapshots deltas) calls octets tt)
   where
-    go : (r : Run) → Promise session keep start r → All GoodSnapshot (r .given) → Wire v session start r
+    go : (r : Reached) → Promise session keep start r → All GoodSnapshot (r .given) → Wire v session start r
     go r p g = record {
       query = λ s asked times out t. query-home v session keep start r p g times s asked out t;
       full = λ times out t. full-home v session keep start r p g times out t;

@@ -13,6 +13,7 @@ use Rattle.change.specs.Merge.{table, merge}
 use Rattle.field.specs.declared.tag.Form.{Form}
 use Rattle.field.specs.Places.{keyIn}
 use Rattle.payload.specs.Content.{Bytes}
+use Rattle.payload.specs.Written.{writtenIfRoom}
 use Rattle.item.specs.declared.place.Entry.{Entry}
 use Rattle.payload.specs.Count.{announces, withdraws, sumOf}
 use Rattle.item.specs.declared.sink.Counts.{Counts}
@@ -101,4 +102,4 @@ abbrev pub outputOf : Form → Delta Bytes Bytes → ℕ → Output
 outputOf form D room = cond (leb (length (writes form D)) room) (Written (plusAll form zero D)) NoRoom
 
 abbrev pub wholeOut : Form → Delta Bytes Bytes → Bytes → Bytes
-wholeOut form D out = cond (leb (length (writes form D)) (length out)) (writes form D ++ drop (length (writes form D)) out) out
+wholeOut form D out = writtenIfRoom (writes form D) out

@@ -28,8 +28,8 @@ use Rattle.cursors.specs.Cursor.{leftOf, runs, itemsLeft, Within, Walks, ItemFi
 use Rattle.cursors.specs.Front.{Fronted, line}
 use Rattle.wire.specs.declared.tally.Tally.{Tally}
 use Rattle.wire.specs.Answer.{allNew}
-use Rattle.wire.specs.declared.origins.Run.{Run}
-use Rattle.wire.specs.Tally.{saying, plusAll, start, Room, Says, Steps, ItemIs}
+use Rattle.wire.specs.declared.origins.RunEnd.{RunEnd}
+use Rattle.wire.specs.Tally.{saying, plusAll, start, Countable, Says, Steps, ItemIs}
 use Rattle.wire.specs.Left.{Left, Listed, Passed}
 use Rattle.wire.specs.Put.{Merges, Holds, LaidIs}
 use Rattle.wire.proofs.Saying.{X, D, saying-cons, saying-none, plus-cons, plus-none}
@@ -64,7 +64,7 @@ module _ (v : Version) (t : Tally) (o : Bytes) (d : D) (t₀ : Tally) (o₀ : By
       }
 
 module _ (v : Version) (t : Tally) (o : Bytes) (d : D) (o₀ : Bytes) (d₀ : D) (l : Left v t o d start o₀ d₀) where
-  left-none : d ≡ [] → Room t → LaidIs v d₀ o₀ o t
+  left-none : d ≡ [] → Countable t → LaidIs v d₀ o₀ o t
   left-none e r = record {
     tally = sym (plus-none v t) ∙ ap (plusAll v t) (sym e) ∙ l .tally;
     room = r;
@@ -115,7 +115,7 @@ module _ (v : Version) (s : Bytes) (at₀ ends f₀ : List ℕ) (from n : ℕ) (
   pub put-walks : Walks s at ends from n
   put-walks = i .walks
 
-  pub put-room : Room t
+  pub put-room : Countable t
   put-room = record {
     len = omega (arith, i .len);
     announced = omega (arith, i .announced);
@@ -186,7 +186,7 @@ listed-more s at next t r x l ahead ready z e =
       valid = a .1;
     }
 
-pub listed-room : (s : Bytes) (at : ℕ) (t : Tally) → Listed s at t → Room t
+pub listed-room : (s : Bytes) (at : ℕ) (t : Tally) → Listed s at t → Countable t
 listed-room s at t l =
     let w = l .ready .within in
     record {
@@ -223,14 +223,14 @@ module _ (v : Version) (s o₀ : Bytes) (at : ℕ) (o : Bytes) (t : Tally) (i : 
   list-listed = i .listed
 
   -- behind a run of origins
-  module _ (o₁ : Bytes) (run : Run) (p : Passed v s at t o o₁ run) where
+  module _ (o₁ : Bytes) (run : RunEnd) (p : Passed v s at t o o₁ run) where
     left : Left v (run .tally) o₁ (readAs Announced (drop (run .at) s)) start o₀ (allNew s)
     left = left-then v t o _ start o₀ _ (i .left) (run .tally) o₁ _ (p .left)
 
     pub list-ready : Ready Announced s (run .at)
     list-ready = p .listed .ready
 
-    pub list-room : Room (run .tally)
+    pub list-room : Countable (run .tally)
     list-room = listed-room s (run .at) (run .tally) (p .listed)
 
     pub list-long : length o₁ ≡ length o₀

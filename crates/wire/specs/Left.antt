@@ -20,7 +20,7 @@ use Rattle.message.specs.declared.version.Version.{Version}
 use Rattle.message.specs.Message.{pdu}
 use Rattle.message.specs.Record.{messageOf}
 use Rattle.wire.specs.declared.tally.Tally.{Tally}
-use Rattle.wire.specs.declared.origins.Run.{Run}
+use Rattle.wire.specs.declared.origins.RunEnd.{RunEnd}
 use Rattle.wire.specs.Tally.{saying, plusAll}
 
 -- what was written with the messages of d behind it is what stood there before with those of d₀
@@ -64,7 +64,7 @@ pub record OriginAt (s : Bytes) (at number : ℕ) : Type 0 where
   pub next : Ready Announced s (at + 26)
 
 -- the snapshot s was passed further, from `from` on, and the messages of what was passed were written
-pub record Passed (v : Version) (s : Bytes) (from : ℕ) (t : Tally) (o o′ : Bytes) (r : Run) : Type 0 where
+pub record Passed (v : Version) (s : Bytes) (from : ℕ) (t : Tally) (o o′ : Bytes) (r : RunEnd) : Type 0 where
   pub on : from ≤ r .at
   pub listed : Listed s (r .at) (r .tally)
   pub left : Left v (r .tally) o′ (readAs Announced (drop (r .at) s)) t o (readAs Announced (drop from s))
