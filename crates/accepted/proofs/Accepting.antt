@@ -17,6 +17,7 @@ use Rattle.change.specs.Application.{apply}
 use Rattle.serial.specs.declared.Serial.{Serial}
 use Rattle.serial.specs.declared.Session.{Session}
 use Rattle.serial.specs.declared.timing.Timing.{Timing}
+use Rattle.serial.specs.Serial.{sessionOf}
 use Rattle.serial.specs.Timing.{timingOf}
 use Rattle.field.specs.declared.tag.Form.the-variants.{Snapshot, Delta}
 use Rattle.field.specs.Cells as run
@@ -90,7 +91,7 @@ module _ (v : Version) (session : ℕ) (serial : Serial) (times : Timing) (base 
   told-is : map asItem (hear v messages .told) ≡ D
   told-is = ap (λ (h : Heard). map asItem (h .told)) (l .reads .heard) ∙ l .reads .items
 
-  stop-is : hear v messages .stop ≡ ended (session % 65_536) (serial .0) (timesTold v (timingOf times))
+  stop-is : hear v messages .stop ≡ ended (sessionOf session .0) (serial .0) (timesTold v (timingOf times))
   stop-is = ap (λ (h : Heard). h .stop) (l .reads .heard)
 
   taken : take A (hear v messages .told) ≡ all B
@@ -108,7 +109,7 @@ module _ (v : Version) (session : ℕ) (serial : Serial) (times : Timing) (base 
   says = faithful Snapshot .map-back B map-b
 
   answers : (room : ℕ) → length (encode Snapshot B) ≤ room →
-      judgeOf v base messages room ≡ Accepted (record { 0 = session % 65_536 }) serial (timesTold v (timingOf times)) (countsOf (hear v messages .told) (encode Snapshot B))
+      judgeOf v base messages room ≡ Accepted (sessionOf session) serial (timesTold v (timingOf times)) (countsOf (hear v messages .told) (encode Snapshot B))
   unfolding judgeOf
   answers room h = rw (admits, stop-is, leaves, le-leb (length (encode Snapshot B)) room h)
 

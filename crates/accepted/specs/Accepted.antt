@@ -8,6 +8,7 @@ use Rattle.order.specs.Map.{All}
 use Rattle.serial.specs.declared.Serial.{Serial}
 use Rattle.serial.specs.declared.Session.{Session}
 use Rattle.serial.specs.declared.timing.Timing.{Timing}
+use Rattle.serial.specs.Serial.{sessionOf}
 use Rattle.serial.specs.Timing.{timingOf}
 use Rattle.field.specs.declared.tag.Form.the-variants.{Snapshot}
 use Rattle.field.specs.declared.verdict.Verdict.the-variants.{Fine}
@@ -36,7 +37,7 @@ pub record Accepts (v : Version) (session : ℕ) (serial : Serial) (times : Timi
   pub result : Bytes
   -- with room for the result: the 16-bit session, the serial and the times of the End of Data (what the version tells of them), the result's length and the counts of messages
   pub accepts : (room : ℕ) → length result ≤ room →
-      judgeOf v base messages room ≡ Accepted (record { 0 = session % 65_536 }) serial (timesTold v (timingOf times)) (countsOf (hear v messages .told) result)
+      judgeOf v base messages room ≡ Accepted (sessionOf session) serial (timesTold v (timingOf times)) (countsOf (hear v messages .told) result)
   -- and the result is written
   pub writes : (out : Bytes) → length result ≤ length out → judgeOut v base messages out ≡ writtenOver result out
   -- it is good: as now in the kinds that the version speaks of, as base in the others

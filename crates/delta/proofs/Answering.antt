@@ -45,7 +45,8 @@ use Rattle.walk.specs.declared.walk.Output.the-variants.{NoRoom, Written}
 use Rattle.delta.specs.declared.construct.Constructed.the-variants as constructed
 use Rattle.delta.specs.declared.merge.Merged.the-variants as merged
 use Rattle.delta.specs.declared.apply.Applied.the-variants as applied
-use Rattle.delta.specs.Admission.{Inputs, andThen, limitAdmitted, judgedOf, verdictAdmitted, admitOf}
+use Rattle.delta.specs.Admission.{andThen, limitAdmitted, judgedOf, verdictAdmitted, admitOf}
+use Rattle.delta.specs.Inputs.{Inputs}
 use Rattle.item.specs.Reading.{formOf, Ready}
 use Rattle.item.specs.Write.{cellAs, writes, plusAll, zero}
 use Rattle.walk.specs.Walk.{Runs, mergedAs, outputOf, wholeOut}

@@ -1,6 +1,5 @@
 -- Which inputs are read: refusal 10 over all arguments, then 1, 12 and 2, the first argument first.
-use Prim.Native.Nat.{ℕ, _≤_}
-use mathlib.Core.Path.{_≡_}
+use Prim.Native.Nat.{ℕ}
 use mathlib.Core.Bool.{cond}
 use lib.Dec.{leb}
 use lib.ListN.{length}
@@ -39,10 +38,3 @@ admitOneOf form s = andThen (limitAdmitted form s 1) (judgedOf form s 1)
 -- a pair of inputs
 abbrev pub admitOf : Form → Bytes → Form → Bytes → Admitted
 admitOf first a second b = andThen (limitAdmitted first a 1) (andThen (limitAdmitted second b 2) (andThen (judgedOf first a 1) (judgedOf second b 2)))
-
--- two good inputs within their limits
-pub record Inputs (f : Form) (a : Bytes) (g : Form) (b : Bytes) : Type 0 where
-  pub short-a : length a ≤ limit f
-  pub short-b : length b ≤ limit g
-  pub fine-a : verdict f a ≡ verdict.Fine
-  pub fine-b : verdict g b ≡ verdict.Fine

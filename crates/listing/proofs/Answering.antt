@@ -29,7 +29,8 @@ use Rattle.item.specs.declared.sink.Counts.{Counts}
 use Rattle.item.specs.declared.reading.Reading.the-variants.{Changes}
 use Rattle.delta.specs.declared.construct.Constructed.{Constructed}
 use Rattle.delta.specs.declared.construct.Constructed.the-variants as constructed
-use Rattle.delta.specs.Admission.{Inputs, andThen, judgedOf, admitOneOf, admitOf}
+use Rattle.delta.specs.Admission.{andThen, judgedOf, admitOneOf, admitOf}
+use Rattle.delta.specs.Inputs.{Inputs}
 use Rattle.item.specs.Write.{plusAll, zero}
 use Rattle.walk.specs.Walk.{Runs, mergedAs}
 use Rattle.delta.specs.Answer.{differenceOf, countsOf, outAfter, constructAt, constructOf, constructOut}

@@ -235,15 +235,15 @@ module _ (session keep : ℕ) (start : Serial) (w : World) where
     formed = inv-formed session keep start w given i
 
     -- the session of the creation
-    same-session : (s : Session) → isSession (w .history) s ≡ eqb (s .0) (session % 65_536)
+    same-session : (s : Session) → isSession (w .history) s ≡ eqb (s .0) (sessionOf session .0)
     same-session s = rw (inv-frame given i .of-session)
 
-    inv-five : (s : Session) (asked : Serial) (out : Bytes) → refusedAs (replyOf w (query s asked out)) ≡ refusal 5 0 0 ↔ ¬ (s .0 ≡ session % 65_536)
+    inv-five : (s : Session) (asked : Serial) (out : Bytes) → refusedAs (replyOf w (query s asked out)) ≡ refusal 5 0 0 ↔ ¬ (s .0 ≡ sessionOf session .0)
     inv-five s asked out =
         let q = queries.five (w .history) s asked (w .snapshots) (w .deltas) (length out) in
         through (answer-refused (queriedIn w s asked (length out) .answer) OtherSession) (
-          λ e. eqb-false (s .0) (session % 65_536) (sym (same-session s) ∙ q .0 e .1),
-          λ n. q .1 (formed, same-session s ∙ ne-eqb (s .0) (session % 65_536) n),
+          λ e. eqb-false (s .0) (sessionOf session .0) (sym (same-session s) ∙ q .0 e .1),
+          λ n. q .1 (formed, same-session s ∙ ne-eqb (s .0) (sessionOf session .0) n),
         )
 
     same-name : sessionOf (w .history .session) ≡ sessionOf session
@@ -267,15 +267,15 @@ module _ (session keep : ℕ) (start : Serial) (w : World) where
         go false e = refl
 
     inv-six : (s : Session) (asked : Serial) (out : Bytes) →
-        refusedAs (replyOf w (query s asked out)) ≡ refusal 6 0 0 ↔ (s .0 ≡ session % 65_536) × ¬ InRule keep start given asked
+        refusedAs (replyOf w (query s asked out)) ≡ refusal 6 0 0 ↔ (s .0 ≡ sessionOf session .0) × ¬ InRule keep start given asked
     inv-six s asked out =
         let q = queries.six (w .history) s asked (w .snapshots) (w .deltas) (length out) in
         through (answer-refused (queriedIn w s asked (length out) .answer) NotServed) (
           λ e. (
-            eqb-true (s .0) (session % 65_536) (sym (same-session s) ∙ q .0 e .1),
+            eqb-true (s .0) (sessionOf session .0) (sym (same-session s) ∙ q .0 e .1),
             λ r. true≢false (sym (rule-of asked .1 r) ∙ q .0 e .2),
           ),
-          λ e. q .1 (formed, same-session s ∙ eq-eqb (s .0) (session % 65_536) (e .0), unserved asked (e .1)),
+          λ e. q .1 (formed, same-session s ∙ eq-eqb (s .0) (sessionOf session .0) (e .0), unserved asked (e .1)),
         )
 
     -- what a served query gets is what is due
@@ -289,14 +289,14 @@ module _ (session keep : ℕ) (start : Serial) (w : World) where
 
     inv-four : (s : Session) (asked : Serial) (out : Bytes) → asked .0 < 2 ^ 32 →
         refusedAs (replyOf w (query s asked out)) ≡ refusal 4 0 0
-        ↔ (s .0 ≡ session % 65_536) × InRule keep start given asked × (length out < length (due w start given asked))
+        ↔ (s .0 ≡ sessionOf session .0) × InRule keep start given asked × (length out < length (due w start given asked))
     inv-four s asked out l =
         let q = queries.four (w .history) s asked (w .snapshots) (w .deltas) (length out) in
         through (answer-refused (queriedIn w s asked (length out) .answer) NoRoom) (
           λ e.
               let f = q .0 e in
               let k : length out < length (answerOf (w .history) asked (w .deltas)) = leb-false (length (answerOf (w .history) asked (w .deltas))) (length out) (f .3) in (
-                eqb-true (s .0) (session % 65_536) (sym (same-session s) ∙ f .1),
+                eqb-true (s .0) (sessionOf session .0) (sym (same-session s) ∙ f .1),
                 rule-of asked .0 (f .2),
                 rw (inv-due asked l (f .2)) at k,
               ),
@@ -304,13 +304,13 @@ module _ (session keep : ℕ) (start : Serial) (w : World) where
               let v = rule-of asked .1 (e .1) in
               q .1 (
                 formed,
-                same-session s ∙ eq-eqb (s .0) (session % 65_536) (e .0),
+                same-session s ∙ eq-eqb (s .0) (sessionOf session .0) (e .0),
                 v,
                 lt-leb (length (answerOf (w .history) asked (w .deltas))) (length out) (rw (inv-due asked l v) (e .2)),
               ),
         )
 
-    inv-serves : (s : Session) (asked : Serial) (out : Bytes) → asked .0 < 2 ^ 32 → s .0 ≡ session % 65_536 → InRule keep start given asked →
+    inv-serves : (s : Session) (asked : Serial) (out : Bytes) → asked .0 < 2 ^ 32 → s .0 ≡ sessionOf session .0 → InRule keep start given asked →
         length (due w start given asked) ≤ length out →
         replyOf w (query s asked out)
         ≡ queried (record { session = sessionOf session; serial = serialIn start given; answer = answers.Served (countsOf (due w start given asked)) }) (writtenOver (due w start given asked) out)
@@ -318,7 +318,7 @@ module _ (session keep : ℕ) (start : Serial) (w : World) where
         let v = rule-of asked .1 r in
         let d = inv-due asked l v in
         let m : length (answerOf (w .history) asked (w .deltas)) ≤ length out = rw d k in
-        let p = queries.serves (w .history) s asked (w .snapshots) (w .deltas) (length out) formed (same-session s ∙ eq-eqb (s .0) (session % 65_536) e) v m in
+        let p = queries.serves (w .history) s asked (w .snapshots) (w .deltas) (length out) formed (same-session s ∙ eq-eqb (s .0) (sessionOf session .0) e) v m in
         queried-path (p ∙ served-path same-name (inv-serial given i) d)
         (queries.out-whole (w .history) s asked (w .snapshots) (w .deltas) out (countsOf (answerOf (w .history) asked (w .deltas))) (ap (λ (a : Queried). a .answer) p)
         ∙ ap (λ (x : Bytes). writtenOver x out) d)
@@ -329,7 +329,7 @@ module _ (session keep : ℕ) (start : Serial) (w : World) where
         let f = inv-frame given i in
         rule-before keep start given asked (f .least) (f .most) (f .bound) l (rule-of asked .0 (queries.found-served (w .history) s asked (w .snapshots) (w .deltas) out c e))
 
-    inv-unordered : (s : Session) (asked : Serial) (out : Bytes) → asked .0 < 2 ^ 32 → s .0 ≡ session % 65_536 → standing asked (serialIn start given) ≡ Unordered →
+    inv-unordered : (s : Session) (asked : Serial) (out : Bytes) → asked .0 < 2 ^ 32 → s .0 ≡ sessionOf session .0 → standing asked (serialIn start given) ≡ Unordered →
         refusedAs (replyOf w (query s asked out)) ≡ refusal 6 0 0
     inv-unordered s asked out l e u =
         let f = inv-frame given i in

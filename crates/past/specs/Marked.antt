@@ -2,7 +2,6 @@
 use Prim.Native.Nat.{ℕ}
 use mathlib.Core.Path.{_≡_}
 use mathlib.Core.List.{List, [], _∷_, _++_}
-use mathlib.Core.Bool.{true}
 use lib.ListN.{length, replicate}
 use Rattle.serial.specs.declared.Serial.{Serial}
 use Rattle.serial.specs.declared.order.Standing.the-variants.{Unordered}
@@ -18,8 +17,9 @@ use Rattle.delta.specs.Answer.{mergedOf, countsOf, constructOf, mergeOf, mergeO
 use Rattle.past.specs.declared.state.History.{History}
 use Rattle.past.specs.declared.query.Answer.the-variants.{Refused, Served}
 use Rattle.past.specs.declared.query.Queried.{Queried}
-use Rattle.past.specs.Store.{joined, lengthsOf}
+use Rattle.past.specs.Store.{joined, holdingOf}
 use Rattle.payload.specs.Written.{writtenOver}
+use Rattle.past.specs.Create.{freshOf}
 use Rattle.past.specs.Query.{queryOf, queryOut}
 
 abbrev pub serial : ℕ → Serial
@@ -64,16 +64,7 @@ lent = replicate 20 9
 
 -- a history of the session 65,543, which is 7 in 16 bits
 abbrev pub historyWith : ℕ → Bytes → List Bytes → History
-historyWith newest s ds = record {
-  session = 65_543;
-  keep = 10;
-  active = true;
-  newest = serial newest;
-  start = serial 0;
-  n = length ds;
-  snapshot = length s;
-  deltas = lengthsOf ds;
-}
+historyWith newest s ds = holdingOf (freshOf 65_543 10 (serial 0)) (serial newest) s ds
 
 -- what a query gets of a history with this newest serial, snapshot and these deltas, oldest first; and the output afterwards
 abbrev pub asks : ℕ → Bytes → List Bytes → ℕ → Queried × Bytes

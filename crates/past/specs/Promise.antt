@@ -165,16 +165,16 @@ pub record Promise (session keep : ℕ) (start : Serial) (r : Reached) : Type 0 
   pub updates : (new : Bytes) → AllBytes new → Updates keep (r .world) (r .given) new
   -- a query is refused with 5 exactly for another session
   pub five : (s : Session) (asked : Serial) (out : Bytes) →
-      refusedAs (replyOf (r .world) (query s asked out)) ≡ refusal 5 0 0 ↔ ¬ (s .0 ≡ session % 65_536)
+      refusedAs (replyOf (r .world) (query s asked out)) ≡ refusal 5 0 0 ↔ ¬ (s .0 ≡ sessionOf session .0)
   -- else with 6 exactly for a serial that is not served by the rule
   pub six : (s : Session) (asked : Serial) (out : Bytes) →
-      refusedAs (replyOf (r .world) (query s asked out)) ≡ refusal 6 0 0 ↔ (s .0 ≡ session % 65_536) × ¬ InRule keep start (r .given) asked
+      refusedAs (replyOf (r .world) (query s asked out)) ≡ refusal 6 0 0 ↔ (s .0 ≡ sessionOf session .0) × ¬ InRule keep start (r .given) asked
   -- else with 4 exactly if what is due is longer than the output
   pub four : (s : Session) (asked : Serial) (out : Bytes) → asked .0 < 2 ^ 32 →
       refusedAs (replyOf (r .world) (query s asked out)) ≡ refusal 4 0 0
-      ↔ (s .0 ≡ session % 65_536) × InRule keep start (r .given) asked × (length out < length (due (r .world) start (r .given) asked))
+      ↔ (s .0 ≡ sessionOf session .0) × InRule keep start (r .given) asked × (length out < length (due (r .world) start (r .given) asked))
   -- else it is served: the 16-bit session, F, the length and counts of what is due, and its bytes, then the output as it was
-  pub serves : (s : Session) (asked : Serial) (out : Bytes) → asked .0 < 2 ^ 32 → s .0 ≡ session % 65_536 → InRule keep start (r .given) asked →
+  pub serves : (s : Session) (asked : Serial) (out : Bytes) → asked .0 < 2 ^ 32 → s .0 ≡ sessionOf session .0 → InRule keep start (r .given) asked →
       length (due (r .world) start (r .given) asked) ≤ length out →
       replyOf (r .world) (query s asked out)
       ≡ queried (record { session = sessionOf session; serial = serialIn start (r .given); answer = Served (countsOf (due (r .world) start (r .given) asked)) })
@@ -191,7 +191,7 @@ pub record Promise (session keep : ℕ) (start : Serial) (r : Reached) : Type 0 
   pub ordered : (s : Session) (asked : Serial) (out : Bytes) (c : Counts) → asked .0 < 2 ^ 32 → queriedIn (r .world) s asked (length out) .answer ≡ Served c →
       (standing asked (serialIn start (r .given)) ≡ Equal) ⊎ (standing asked (serialIn start (r .given)) ≡ Before)
   -- so one that is unordered with the newest is refused with 6
-  pub unordered : (s : Session) (asked : Serial) (out : Bytes) → asked .0 < 2 ^ 32 → s .0 ≡ session % 65_536 →
+  pub unordered : (s : Session) (asked : Serial) (out : Bytes) → asked .0 < 2 ^ 32 → s .0 ≡ sessionOf session .0 →
       standing asked (serialIn start (r .given)) ≡ Unordered → refusedAs (replyOf (r .world) (query s asked out)) ≡ refusal 6 0 0
   -- the full answer names the 16-bit session and F too, with the current snapshot; so does the notice; the mark says whether one was accepted
   pub whole : replyOf (r .world) full ≡ fully (record { session = sessionOf session; serial = serialIn start (r .given); answer = Held (length (current (r .world))) })

@@ -1,7 +1,7 @@
 -- An update with a new snapshot.
 use Prim.Native.Nat.{ℕ}
 use mathlib.Core.List.{List, [], _∷_, _++_, map}
-use mathlib.Core.Bool.{true, cond, _&&_}
+use mathlib.Core.Bool.{cond, _&&_}
 use lib.Dec.{leb, eqb}
 use lib.ListN.{length, drop}
 use Rattle.serial.specs.Serial.{nextOf}
@@ -16,7 +16,7 @@ use Rattle.delta.specs.Answer.{differenceOf, countsOf}
 use Rattle.past.specs.declared.state.History.{History}
 use Rattle.past.specs.declared.update.Update.the-variants.{First, Unchanged, Changed, Refused}
 use Rattle.past.specs.declared.update.Updated.{Updated}
-use Rattle.past.specs.Store.{total, joined, heldSnapshot, heldDeltas, lengthsOf}
+use Rattle.past.specs.Store.{total, joined, heldSnapshot, heldDeltas, holdingOf}
 use Rattle.payload.specs.Written.{writtenOver}
 use Rattle.past.specs.WellFormed.{wellFormed}
 
@@ -59,29 +59,11 @@ stepFor h new snapshots deltas =
 
 -- the new snapshot is current, and the serial stays
 abbrev pub firstState : History → Bytes → History
-firstState h new = record {
-  session = h .session;
-  keep = h .keep;
-  active = true;
-  newest = h .newest;
-  start = h .start;
-  n = 0;
-  snapshot = length new;
-  deltas = lengthsOf [];
-}
+firstState h new = holdingOf h (h .newest) new []
 
 -- the new snapshot is current, these deltas are held, and the serial is the one after
 abbrev pub nextState : History → Bytes → List Bytes → History
-nextState h new ds = record {
-  session = h .session;
-  keep = h .keep;
-  active = true;
-  newest = nextOf (h .newest);
-  start = h .start;
-  n = length ds;
-  snapshot = length new;
-  deltas = lengthsOf ds;
-}
+nextState h new ds = holdingOf h (nextOf (h .newest)) new ds
 
 abbrev pub updateAt : Step → History → Bytes → Bytes → Updated
 updateAt (refuse r) h new deltas = record { answer = Refused r; history = h }

@@ -16,7 +16,8 @@ use Rattle.field.proofs.Walk.{good-end, good-cells}
 use Rattle.payload.specs.Count.{isAnnounced, isWithdrawn, announcedIn, withdrawnIn}
 use Rattle.reader.specs.declared.count.Tally.{Tally}
 use Rattle.reader.specs.Step.{behind}
-use Rattle.reader.specs.Count.{announcesTag, withdrawsTag, Countable, plusField, isOver, tallyOf}
+use Rattle.reader.specs.Count.{tallyOf}
+use Rattle.reader.specs.Counting.{announcesTag, withdrawsTag, Countable, plusField, isOver}
 
 -- ---- one tag
 

@@ -3,7 +3,8 @@ use crate::new;
 use crate::next;
 use field::head::Field;
 ghost use mathlib.Core.Path.{_≡_};
-ghost use Rattle.reader.specs.Count.{isOver, announcesTag, withdrawsTag, Countable, plusField, tallyOf};
+ghost use Rattle.reader.specs.Count.{tallyOf};
+ghost use Rattle.reader.specs.Counting.{isOver, announcesTag, withdrawsTag, Countable, plusField};
 
 pub struct Tally {
     pub announced: usize,

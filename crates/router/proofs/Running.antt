@@ -155,11 +155,11 @@ module _ (v : Version) (session : ℕ) (serial : Serial) (times : Timing) (bound
   said : All (Spoken v) (spoken v (diff bytes bytes A C))
   said = spoken-all v (diff bytes bytes A C) (map-d .valid) (diff-bytes A C (item-bytes base (gb .octets) (gb .fine)) (item-bytes now (gn .octets) (gn .fine)))
 
-  leads-on : LeadsOn v session serial times base now (pdus v (answer v (session % 65_536) (serial .0) (timingOf times) (diff bytes bytes A C)))
+  leads-on : LeadsOn v session serial times base now (pdus v (answer v (sessionOf session .0) (serial .0) (timingOf times) (diff bytes bytes A C)))
   leads-on = record {
     reads = record {
       told = toldFrom v 8 (spoken v (diff bytes bytes A C));
-      heard = hear-answer v (session % 65_536) (serial .0) (timingOf times) (omega arith) bound (times-fit v times) (diff bytes bytes A C) said;
+      heard = hear-answer v (sessionOf session .0) (serial .0) (timingOf times) (omega arith) bound (times-fit v times) (diff bytes bytes A C) said;
       items = told-items v 8 (spoken v (diff bytes bytes A C));
     };
     taken = router-takes v A (diff bytes bytes A C) (map-a .sorted) (map-d .sorted) (toldFrom v 8 (spoken v (diff bytes bytes A C))) (told-items v 8 (spoken v (diff bytes bytes A C)))
@@ -209,7 +209,7 @@ module _ (v : Version) (session keep : ℕ) (start : Serial) (r : Reached) (p : 
   F-bound : F .0 < 2 ^ 32
   F-bound = omega arith
 
-  bytes-are : (D : change.Delta Bytes Bytes) → answerBytes v (frameOf h times) D ≡ pdus v (answer v (session % 65_536) (F .0) (timingOf times) D)
+  bytes-are : (D : change.Delta Bytes Bytes) → answerBytes v (frameOf h times) D ≡ pdus v (answer v (sessionOf session .0) (F .0) (timingOf times) D)
   bytes-are D = ap₂ (λ (s : Session) (n : Serial). pdus v (answer v (s .0) (n .0) (timingOf times) D)) own (p .serial)
 
   -- what a served query would have written as a delta
@@ -240,8 +240,8 @@ module _ (v : Version) (session keep : ℕ) (start : Serial) (r : Reached) (p : 
       let gn : GoodSnapshot (current w) = good-current session keep start r p goods n in
       let d : changesSince h asked (w .deltas) ≡ diff bytes bytes (items (l .base)) (items (current w)) =
       since-is h asked (w .snapshots) (w .deltas) (l .base) (current w) (x .formed) gb gn (sym (left s asked (x .formed) (x .session) (x .served)) ∙ l .exact) in
-      let e : written (queryIn v w s asked times) out t ≡ pdus v (answer v (session % 65_536) (F .0) (timingOf times) (diff bytes bytes (items (l .base)) (items (current w)))) =
-      x .wrote ∙ bytes-are (changesSince h asked (w .deltas)) ∙ ap (λ (D : change.Delta Bytes Bytes). pdus v (answer v (session % 65_536) (F .0) (timingOf times) D)) d in
+      let e : written (queryIn v w s asked times) out t ≡ pdus v (answer v (sessionOf session .0) (F .0) (timingOf times) (diff bytes bytes (items (l .base)) (items (current w)))) =
+      x .wrote ∙ bytes-are (changesSince h asked (w .deltas)) ∙ ap (λ (D : change.Delta Bytes Bytes). pdus v (answer v (sessionOf session .0) (F .0) (timingOf times) D)) d in
       record { base = l .base; most-recent = l .most-recent; leads = rw e (leads-on v session F times F-bound (l .base) (current w) gb gn) }
 
   full-wrote : (out : Bytes) (t : Tally) → sentAt (fullIn v w times) (length out) .reply ≡ Data t →
@@ -262,9 +262,9 @@ module _ (v : Version) (session keep : ℕ) (start : Serial) (r : Reached) (p : 
       LeadsOn v session F times [] (current w) (written (fullIn v w times) out t)
   full-home out t n q =
       let z : items [] ≡ [] = entries-end Snapshot in
-      let e : written (fullIn v w times) out t ≡ pdus v (answer v (session % 65_536) (F .0) (timingOf times) (diff bytes bytes (items []) (items (current w)))) =
+      let e : written (fullIn v w times) out t ≡ pdus v (answer v (sessionOf session .0) (F .0) (timingOf times) (diff bytes bytes (items []) (items (current w)))) =
       full-wrote out t q ∙ bytes-are (allNew (current w))
-      ∙ ap (λ (B : change.Snapshot Bytes Bytes). pdus v (answer v (session % 65_536) (F .0) (timingOf times) (diff bytes bytes B (items (current w))))) (sym z) in
+      ∙ ap (λ (B : change.Snapshot Bytes Bytes). pdus v (answer v (sessionOf session .0) (F .0) (timingOf times) (diff bytes bytes B (items (current w))))) (sym z) in
       rw e (leads-on v session F times F-bound [] (current w) nothing-good (good-current session keep start r p goods n))
 
 -- in any version, over every run of calls from a fresh history

@@ -10,6 +10,7 @@ use Rattle.change.specs.Difference.{Delta, diff}
 use Rattle.serial.specs.declared.Serial.{Serial}
 use Rattle.serial.specs.declared.Session.{Session}
 use Rattle.serial.specs.declared.timing.Timing.{Timing}
+use Rattle.serial.specs.Serial.{sessionOf}
 use Rattle.serial.specs.Timing.{timingOf}
 use Rattle.payload.specs.Content.{Bytes}
 use Rattle.payload.specs.Payload as payload
@@ -30,7 +31,7 @@ use Rattle.wire.specs.Answer.{Plan, sentAt, outAt, queryPlan, fullPlan}
 -- what is read: these items as far as the version speaks of their kinds, in order, each once; then the session, the serial and what is told of the times
 pub record HeardAs (v : Version) (session : ℕ) (serial : Serial) (times : Timing) (D : Delta Bytes Bytes) (messages : Bytes) : Type 0 where
   pub told : List Told
-  pub heard : hear v messages ≡ record { told = told; stop = ended (session % 65_536) (serial .0) (timesTold v (timingOf times)) }
+  pub heard : hear v messages ≡ record { told = told; stop = ended (sessionOf session .0) (serial .0) (timesTold v (timingOf times)) }
   pub items : map asItem told ≡ spoken v D
 
 -- and that, taken one after another on what the version speaks of one snapshot, leaves what it speaks of another

@@ -6,10 +6,11 @@ use lib.ListN.{length, getD, drop}
 use lib.Seq.{sets}
 use Rattle.order.specs.Map.{All}
 use Rattle.change.specs.Difference as change
-use Rattle.field.specs.declared.tag.Form.the-variants.{Delta}
+use Rattle.field.specs.declared.tag.Form.the-variants.{Snapshot, Delta}
 use Rattle.field.specs.declared.key.Key.{Key}
 use Rattle.field.specs.Places.{keyIn}
 use Rattle.payload.specs.Content.{Bytes}
+use Rattle.payload.specs.Limit.{limit}
 use Rattle.payload.specs.Valid.{Valid}
 use Rattle.item.specs.declared.place.Act.{Act}
 use Rattle.item.specs.declared.place.Act.the-variants.{Announce}
@@ -32,7 +33,7 @@ pub record Left (v : Version) (t : Tally) (o : Bytes) (d : change.Delta Bytes By
 -- the good snapshot s was passed up to `at`, and this was counted
 pub record Listed (s : Bytes) (at : ℕ) (t : Tally) : Type 0 where
   pub ready : Ready Announced s at
-  pub small : length s ≤ 16_777_216
+  pub small : length s ≤ limit Snapshot
   pub len : t .len ≤ 8 + 1_056 * at
   pub announced : t .announced ≤ at
   pub withdrawn : t .withdrawn ≤ at

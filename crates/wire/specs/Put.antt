@@ -12,6 +12,7 @@ use Rattle.field.specs.declared.tag.Form.the-variants.{Snapshot, Delta}
 use Rattle.field.specs.declared.verdict.Verdict.the-variants.{Fine}
 use Rattle.field.specs.Verdict.{verdict}
 use Rattle.payload.specs.Content.{Bytes}
+use Rattle.payload.specs.Limit.{limit}
 use Rattle.payload.specs.Valid.{IsMap}
 use Rattle.payload.specs.Written.{writtenIfRoom}
 use Rattle.message.specs.declared.version.Version.{Version}
@@ -78,7 +79,7 @@ pub record Merges (s : Bytes) (at ends : List ℕ) (from n : ℕ) : Type 0 where
 -- a good snapshot within the limit
 pub record Holds (s : Bytes) : Type 0 where
   pub fine : verdict Snapshot s ≡ Fine
-  pub small : length s ≤ 16_777_216
+  pub small : length s ≤ limit Snapshot
 
 -- a history's snapshot, good and within the limit
 pub record Held (h : History) (snapshots : Bytes) : Type 0 where

@@ -60,8 +60,9 @@ use Rattle.field.proofs.head.Field.Laws as F′
 use Rattle.reader.specs.declared.DeltaReader.{DeltaReader}
 use Rattle.reader.specs.declared.count.Tally.{Tally}
 use Rattle.reader.specs.Step.{start, behind, found, stepped}
-use Rattle.reader.specs.Count as count-specs
-use Rattle.reader.specs.Count.{isOver, plusField, tallyOf}
+use Rattle.reader.specs.Count.{tallyOf}
+use Rattle.reader.specs.Counting as count-specs
+use Rattle.reader.specs.Counting.{isOver, plusField}
 use Rattle.reader.proofs.Counting.{Counted, More, counted-start, counted-all, counted-more}
 use Rattle.reader.proofs.DeltaReader as T
 use Rattle.reader.proofs.DeltaReader.Laws as T′
