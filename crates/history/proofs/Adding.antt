@@ -46,10 +46,10 @@ fine (verdict.NotAbove at) e = absurd (let z : _≡_ {A = ℕ} 0 1 = cc in omega
 
 pub record Formed (h : History) (snapshots deltas : Bytes) : Type 0 where
   pub ranged : Ranged h
-  pub short : length snapshots ≤ 16_777_216
+  pub short : length snapshots ≤ limit Snapshot
   pub within : h .snapshot ≤ length snapshots
   pub good : verdict Snapshot (heldSnapshot h snapshots) ≡ verdict.Fine
-  pub limited : length deltas ≤ 33_554_432
+  pub limited : length deltas ≤ limit Delta
   pub room : total (heldLengths h) ≤ length deltas
 
 state-ranged : (h : History) → goodState h ≡ true → Ranged h
@@ -79,10 +79,10 @@ formed-is h s d e =
       room = leb-true (total (heldLengths h)) (length d) (v .0);
     }
 
-pub admitted-short : (s : Bytes) → admitOneOf Snapshot s ≡ Yes → length s ≤ 16_777_216
+pub admitted-short : (s : Bytes) → admitOneOf Snapshot s ≡ Yes → length s ≤ limit Snapshot
 admitted-short s = go (leb (length s) (limit Snapshot)) refl
   where
-    go : (t : Bool) → leb (length s) (limit Snapshot) ≡ t → andThen (cond t Yes (No (TooLong 1))) (verdictAdmitted 1 (verdict Snapshot s)) ≡ Yes → length s ≤ 16_777_216
+    go : (t : Bool) → leb (length s) (limit Snapshot) ≡ t → andThen (cond t Yes (No (TooLong 1))) (verdictAdmitted 1 (verdict Snapshot s)) ≡ Yes → length s ≤ limit Snapshot
     go true q e = leb-true (length s) (limit Snapshot) q
     go false q e = absurd (let z : _≡_ {A = ℕ} 0 1 = cc in omega arith)
 

@@ -8,6 +8,7 @@ use lib.Seq.{sets, length-sets}
 use Rattle.field.specs.declared.tag.Form.the-variants.{Delta}
 use Rattle.field.specs.declared.key.Key.{Key}
 use Rattle.payload.specs.Content.{Bytes}
+use Rattle.payload.specs.Limit.{limit}
 use Rattle.item.specs.declared.place.Act.{Act}
 use Rattle.item.specs.declared.sink.Counts.{Counts}
 use Rattle.item.specs.Place.{changeIn, itemIn, ActFits, KeyIn}
@@ -26,9 +27,9 @@ pub record Putting (s : Bytes) (at₀ ends f₀ : List ℕ) (from n : ℕ) (o₀
   pub walks : Walks s at ends from n
   pub same-long : length at ≡ length at₀
   pub long : length o ≡ length o₀
-  pub len : c .len + 40_000 * itemsLeft s at ends from n ≤ 40_000 * 33_554_432
-  pub announced : c .announced + itemsLeft s at ends from n ≤ 33_554_432
-  pub withdrawn : c .withdrawn + itemsLeft s at ends from n ≤ 33_554_432
+  pub len : c .len + 40_000 * itemsLeft s at ends from n ≤ 40_000 * limit Delta
+  pub announced : c .announced + itemsLeft s at ends from n ≤ limit Delta
+  pub withdrawn : c .withdrawn + itemsLeft s at ends from n ≤ limit Delta
   pub left : Left-over Delta c o (leftOf s at ends from n) zero o₀ (leftOf s at₀ ends from n)
 
 pub put-within : (s : Bytes) (at ends : List ℕ) (from n : ℕ) → Bounded s at ends from n → Within s at ends n

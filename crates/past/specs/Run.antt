@@ -119,7 +119,7 @@ refusedAs reply = numbered (refusalIn reply)
 abbrev pub refusal : ℕ → ℕ → ℕ → Option Values
 refusal number argument offset = some (record { number = number; argument = argument; offset = offset })
 
--- a world, and the snapshots that were accepted so far, oldest first, without those that changed nothing
+-- where a run has come: a world, and the snapshots that were accepted so far, oldest first, without those that changed nothing
 pub record Reached : Type 0 where
   pub world : World
   pub given : List Bytes

@@ -9,6 +9,7 @@ use Rattle.order.specs.Map.{All}
 use Rattle.field.specs.declared.tag.Form.the-variants.{Snapshot, Delta}
 use Rattle.field.specs.declared.key.Key.{Key}
 use Rattle.payload.specs.Content.{Bytes}
+use Rattle.payload.specs.Limit.{limit}
 use Rattle.payload.specs.Valid.{Valid}
 use Rattle.payload.proofs.Faithful.{faithful}
 use Rattle.payload.proofs.Closed.{diff-map, merge-all-map}
@@ -80,11 +81,11 @@ pub record Putting (v : Version) (s : Bytes) (at₀ ends f₀ : List ℕ) (from 
   pub walks : Walks s at ends from n
   pub same-long : length at ≡ length at₀
   pub long : length o ≡ length o₀
-  pub len : t .len + 1_056 * itemsLeft s at ends from n ≤ 8 + 1_056 * 33_554_432
-  pub announced : t .announced + itemsLeft s at ends from n ≤ 33_554_432
-  pub withdrawn : t .withdrawn + itemsLeft s at ends from n ≤ 33_554_432
-  pub keys : t .keys + itemsLeft s at ends from n ≤ 33_554_432
-  pub aspas : t .aspas + itemsLeft s at ends from n ≤ 33_554_432
+  pub len : t .len + 1_056 * itemsLeft s at ends from n ≤ 8 + 1_056 * limit Delta
+  pub announced : t .announced + itemsLeft s at ends from n ≤ limit Delta
+  pub withdrawn : t .withdrawn + itemsLeft s at ends from n ≤ limit Delta
+  pub keys : t .keys + itemsLeft s at ends from n ≤ limit Delta
+  pub aspas : t .aspas + itemsLeft s at ends from n ≤ limit Delta
   pub valid : All (Valid Delta) (leftOf s at ends from n)
   pub left : Left v t o (leftOf s at ends from n) start o₀ (leftOf s at₀ ends from n)
 
