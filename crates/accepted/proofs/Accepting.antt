@@ -17,6 +17,7 @@ use Rattle.change.specs.Application.{apply}
 use Rattle.serial.specs.declared.Serial.{Serial}
 use Rattle.serial.specs.declared.Session.{Session}
 use Rattle.serial.specs.declared.timing.Timing.{Timing}
+use Rattle.serial.specs.Serial.{sessionOf}
 use Rattle.serial.specs.Timing.{timingOf}
 use Rattle.field.specs.declared.tag.Form.the-variants.{Snapshot, Delta}
 use Rattle.field.specs.Cells as run
@@ -28,7 +29,8 @@ use Rattle.payload.proofs.Faithful.{faithful}
 use Rattle.payload.proofs.Closed.{diff-map, apply-map}
 use Rattle.delta.specs.declared.admit.Admitted.the-variants.{Yes}
 use Rattle.delta.specs.Admission.{admitOneOf}
-use Rattle.delta.specs.Demand.{GoodSnapshot, Acceptable, holding}
+use Rattle.delta.specs.Demand.{GoodSnapshot, Acceptable}
+use Rattle.payload.specs.Written.{writtenOver}
 use Rattle.message.specs.declared.version.Version.{Version}
 use Rattle.message.specs.Version.{speaks, timesTold}
 use Rattle.message.specs.Say.{kindIn, spoken}
@@ -39,7 +41,7 @@ use Rattle.judge.specs.declared.judge.Judged.the-variants.{Accepted}
 use Rattle.judge.specs.Answer.{countsOf, judgeAdmitted, resultOf, judgeOf, judgeOut}
 use Rattle.judge.specs.Promise.{unspoken}
 use Rattle.judge.proofs.Results.{onward-spoken, onward-unspoken, onward-whole, onward-taken}
-use Rattle.past.specs.Run.{Run, Call, startOf, runOf, carried}
+use Rattle.past.specs.Run.{Reached, Call, startOf, runOf, carried}
 use Rattle.past.specs.Promise.{serialIn, current, Promise}
 use Rattle.past.proofs.Runs.{promise}
 use Rattle.past.proofs.Given.{given-acceptable, given-good, all-carried, good-current}
@@ -47,7 +49,7 @@ use Rattle.past.proofs.Steps.{fine-admitted}
 use Rattle.wire.specs.declared.tally.Tally.{Tally}
 use Rattle.wire.specs.declared.sent.Reply.the-variants.{Data}
 use Rattle.wire.specs.Answer.{sentAt}
-use Rattle.router.specs.Promise.{Reads, LeadsOn, Home, queryIn, fullIn, written, Wire}
+use Rattle.router.specs.Promise.{HeardAs, LeadsOn, Home, queryIn, fullIn, written, Wire}
 use Rattle.router.proofs.Running.{wire}
 use Rattle.accepted.specs.Accepted.{Accepts, Judged, EveryJudged}
 
@@ -89,7 +91,7 @@ module _ (v : Version) (session : ℕ) (serial : Serial) (times : Timing) (base 
   told-is : map asItem (hear v messages .told) ≡ D
   told-is = ap (λ (h : Heard). map asItem (h .told)) (l .reads .heard) ∙ l .reads .items
 
-  stop-is : hear v messages .stop ≡ ended (session % 65_536) (serial .0) (timesTold v (timingOf times))
+  stop-is : hear v messages .stop ≡ ended (sessionOf session .0) (serial .0) (timesTold v (timingOf times))
   stop-is = ap (λ (h : Heard). h .stop) (l .reads .heard)
 
   taken : take A (hear v messages .told) ≡ all B
@@ -107,11 +109,11 @@ module _ (v : Version) (session : ℕ) (serial : Serial) (times : Timing) (base 
   says = faithful Snapshot .map-back B map-b
 
   answers : (room : ℕ) → length (encode Snapshot B) ≤ room →
-      judgeOf v base messages room ≡ Accepted (record { 0 = session % 65_536 }) serial (timesTold v (timingOf times)) (countsOf (hear v messages .told) (encode Snapshot B))
+      judgeOf v base messages room ≡ Accepted (sessionOf session) serial (timesTold v (timingOf times)) (countsOf (hear v messages .told) (encode Snapshot B))
   unfolding judgeOf
   answers room h = rw (admits, stop-is, leaves, le-leb (length (encode Snapshot B)) room h)
 
-  outs : (out : Bytes) → length (encode Snapshot B) ≤ length out → judgeOut v base messages out ≡ holding (encode Snapshot B) out
+  outs : (out : Bytes) → length (encode Snapshot B) ≤ length out → judgeOut v base messages out ≡ writtenOver (encode Snapshot B) out
   unfolding judgeOut
   outs out h = rw (admits, leaves, le-leb (length (encode Snapshot B)) (length out) h)
 
@@ -129,7 +131,7 @@ module _ (v : Version) (session : ℕ) (serial : Serial) (times : Timing) (base 
 -- ---- every run
 
 empty-acceptable : Acceptable []
-unfolding encode run.encode
+unfolding encode run.cellBytes
 empty-acceptable = record {
   good = record { octets = λ i. omega arith; fine = faithful Snapshot .good-bytes [] (record { sorted = tt; valid = tt }) };
   short = omega arith;
@@ -144,7 +146,7 @@ judged v session keep start snapshots deltas bound done calls octets =
     (given-good (startOf session keep start snapshots deltas) calls octets tt)
     (given-acceptable (startOf session keep start snapshots deltas) calls octets tt)
   where
-    go : (r : Run) → Promise session keep start r → Wire v session start r → All GoodSnapshot (r .given) → All Acceptable (r .given) → Judged v session start r
+    go : (r : Reached) → Promise session keep start r → Wire v session start r → All GoodSnapshot (r .given) → All Acceptable (r .given) → Judged v session start r
     go r p w g a = record {
       query = λ s asked times out t b n q base e.
           let h = w .query s asked times out t b n q in

@@ -8,13 +8,14 @@ use Rattle.order.specs.Map.{All}
 use Rattle.serial.specs.declared.Serial.{Serial}
 use Rattle.serial.specs.declared.Session.{Session}
 use Rattle.serial.specs.declared.timing.Timing.{Timing}
+use Rattle.serial.specs.Serial.{sessionOf}
 use Rattle.serial.specs.Timing.{timingOf}
 use Rattle.field.specs.declared.tag.Form.the-variants.{Snapshot}
 use Rattle.field.specs.declared.verdict.Verdict.the-variants.{Fine}
 use Rattle.field.specs.Verdict.{verdict}
 use Rattle.payload.specs.Content.{Bytes}
 use Rattle.payload.specs.Payload.{items}
-use Rattle.delta.specs.Demand.{holding}
+use Rattle.payload.specs.Written.{writtenOver}
 use Rattle.message.specs.declared.version.Version.{Version}
 use Rattle.message.specs.Version.{timesTold}
 use Rattle.message.specs.Say.{spoken}
@@ -24,7 +25,7 @@ use Rattle.judge.specs.Answer.{countsOf, judgeOf, judgeOut}
 use Rattle.judge.specs.Promise.{unspoken}
 use Rattle.past.specs.declared.create.Creation.the-variants.{Done}
 use Rattle.past.specs.Create.{createOf}
-use Rattle.past.specs.Run.{Call, Run, startOf, runOf, carried}
+use Rattle.past.specs.Run.{Call, Reached, startOf, runOf, carried}
 use Rattle.past.specs.Promise.{OfBytes, serialIn, current}
 use Rattle.wire.specs.declared.tally.Tally.{Tally}
 use Rattle.wire.specs.declared.sent.Reply.the-variants.{Data}
@@ -36,9 +37,9 @@ pub record Accepts (v : Version) (session : ℕ) (serial : Serial) (times : Timi
   pub result : Bytes
   -- with room for the result: the 16-bit session, the serial and the times of the End of Data (what the version tells of them), the result's length and the counts of messages
   pub accepts : (room : ℕ) → length result ≤ room →
-      judgeOf v base messages room ≡ Accepted (record { 0 = session % 65_536 }) serial (timesTold v (timingOf times)) (countsOf (hear v messages .told) result)
+      judgeOf v base messages room ≡ Accepted (sessionOf session) serial (timesTold v (timingOf times)) (countsOf (hear v messages .told) result)
   -- and the result is written
-  pub writes : (out : Bytes) → length result ≤ length out → judgeOut v base messages out ≡ holding result out
+  pub writes : (out : Bytes) → length result ≤ length out → judgeOut v base messages out ≡ writtenOver result out
   -- it is good: as now in the kinds that the version speaks of, as base in the others
   pub fine : verdict Snapshot result ≡ Fine
   pub as-now : spoken v (items result) ≡ spoken v (items now)
@@ -47,7 +48,7 @@ pub record Accepts (v : Version) (session : ℕ) (serial : Serial) (times : Timi
   pub whole : unspoken v (items base) ≡ unspoken v (items now) → result ≡ now
 
 -- once a first snapshot is accepted
-pub record Judged (v : Version) (session : ℕ) (start : Serial) (r : Run) : Type 0 where
+pub record Judged (v : Version) (session : ℕ) (start : Serial) (r : Reached) : Type 0 where
   -- the messages of a served query, by one who holds the snapshot that most recently carried the serial asked for
   pub query : (s : Session) (asked : Serial) (times : Timing) (out : Bytes) (t : Tally) → asked .0 < 2 ^ 32 → ¬ (r .given ≡ []) →
       sentAt (queryIn v (r .world) s asked times) (length out) .reply ≡ Data t → (base : Bytes) → carried start asked (r .given) ≡ some base →

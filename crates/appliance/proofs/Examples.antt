@@ -55,7 +55,7 @@ pub record Examples : Type 0 where
       }
 
 pub examples : Examples
-unfolding walk front judge verdictF verdict cellsF cells field run.encode entries encode wellFormed mergedLast queryOf queryOut laidOf
+unfolding walk front judge verdictF verdict cellsF cells field run.cellBytes entries encode wellFormed mergedLast queryOf queryOut laidOf
 examples = record {
   none = refl;
   two = refl;

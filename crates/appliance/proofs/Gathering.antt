@@ -16,6 +16,7 @@ use Rattle.serial.specs.declared.Session.{Session}
 use Rattle.serial.specs.Serial.{distanceOf, sessionOf}
 use Rattle.field.specs.Number.{twoAt, fourAt}
 use Rattle.payload.specs.Content.{Bytes}
+use Rattle.payload.specs.Written.{writtenOver}
 use Rattle.delta.specs.declared.refusal.Refusal.{Refusal}
 use Rattle.delta.specs.declared.refusal.Refusal.the-variants.{IllFormed, BadList}
 use Rattle.delta.specs.declared.admit.Admitted.{Admitted}
@@ -25,7 +26,7 @@ use Rattle.delta.specs.Answer.{outAfter}
 use Rattle.past.specs.declared.state.History.{History}
 use Rattle.past.specs.Store.{heldDeltas}
 use Rattle.past.specs.WellFormed.{wellFormed}
-use Rattle.past.specs.Query.{asksOf, passes, mergedLast, queryAt, queryOf, queryOut, queryAdmitted}
+use Rattle.past.specs.Query.{askAdmitted, passes, mergedLast, queryAt, queryOf, queryOut, queryAdmitted}
 use Rattle.history.specs.Place.{Stored}
 use Rattle.history.proofs.Asking.{formed-stored, query-within}
 use Rattle.appliance.specs.declared.reply.Reply.{Reply}
@@ -33,7 +34,7 @@ use Rattle.appliance.specs.declared.reply.Replied.{Replied}
 use Rattle.appliance.specs.declared.turn.Known.{Known}
 use Rattle.appliance.specs.declared.turn.Known.the-variants.{Nothing}
 use Rattle.appliance.specs.declared.turn.Turn.{Turn}
-use Rattle.appliance.specs.QueryAll.{Asked, askedIn, askedFirst, askedBy, goodList, listAdmitted, replyOf, usedBy, Laid, answerAt, outAt, answered, unused, laidOf, noReply, padded, refusedCall, queryAllOf, queryAllOut}
+use Rattle.appliance.specs.QueryAll.{Asked, askedIn, askedFirst, askedBy, goodList, listAdmitted, replyOf, usedBy, Laid, answerAt, outFrom, answered, unused, laidOf, noReply, padded, refusedCall, queryAllOf, queryAllOut}
 use Rattle.appliance.specs.Turn.{Remembers, Takes, TurnIs}
 use Rattle.appliance.proofs.Turning.{never, knows-nothing, knows-still}
 
@@ -62,29 +63,29 @@ module _ (h : History) (snapshots deltas queries : Bytes) (e : listAdmitted h sn
 module _ (h : History) (snapshots deltas : Bytes) (f : wellFormed h snapshots deltas ≡ true) (session : Session) (asked : Serial) (l : asked .0 < 2 ^ 32)
     (d : ℕ) (i : d ≡ min (distanceOf (h .newest) asked) 64) where
   -- no served serial is further back than the deltas that are held
-  near : asksOf h session asked ≡ Yes → distanceOf (h .newest) asked ≤ h .n
+  near : askAdmitted h session asked ≡ Yes → distanceOf (h .newest) asked ≤ h .n
   near e =
       let q : queryAdmitted h session asked snapshots deltas ≡ Yes = rw f e in
       query-within h session asked snapshots deltas (queryAdmitted h session asked snapshots deltas) refl q (distanceOf (h .newest) asked) refl l
 
-  steps-are : asksOf h session asked ≡ Yes → d ≡ distanceOf (h .newest) asked
+  steps-are : askAdmitted h session asked ≡ Yes → d ≡ distanceOf (h .newest) asked
   steps-are e = omega (arith, near e, formed-stored h snapshots deltas f .few)
 
-  steps-within : asksOf h session asked ≡ Yes → d ≤ h .n
+  steps-within : askAdmitted h session asked ≡ Yes → d ≤ h .n
   steps-within e = omega (arith, near e, steps-are e)
 
-  single : (room : ℕ) → queryOf h session asked snapshots deltas room ≡ queryAt (asksOf h session asked) h (mergedLast d (heldDeltas h deltas)) room
+  single : (room : ℕ) → queryOf h session asked snapshots deltas room ≡ queryAt (askAdmitted h session asked) h (mergedLast d (heldDeltas h deltas)) room
   unfolding queryOf
-  single room = rw f (go (asksOf h session asked) steps-are)
+  single room = rw f (go (askAdmitted h session asked) steps-are)
     where
       go : (x : Admitted) → (x ≡ Yes → d ≡ distanceOf (h .newest) asked) →
           queryAt x h (mergedLast (distanceOf (h .newest) asked) (heldDeltas h deltas)) room ≡ queryAt x h (mergedLast d (heldDeltas h deltas)) room
       go Yes s = let z = s refl in rw (← z)
       go (No r) s = refl
 
-  single-out : (out : Bytes) → queryOut h session asked snapshots deltas out ≡ outAfter (asksOf h session asked) (mergedLast d (heldDeltas h deltas)) out
+  single-out : (out : Bytes) → queryOut h session asked snapshots deltas out ≡ outAfter (askAdmitted h session asked) (mergedLast d (heldDeltas h deltas)) out
   unfolding queryOut
-  single-out out = rw f (go (asksOf h session asked) steps-are)
+  single-out out = rw f (go (askAdmitted h session asked) steps-are)
     where
       go : (x : Admitted) → (x ≡ Yes → d ≡ distanceOf (h .newest) asked) →
           outAfter x (mergedLast (distanceOf (h .newest) asked) (heldDeltas h deltas)) out ≡ outAfter x (mergedLast d (heldDeltas h deltas)) out
@@ -97,7 +98,7 @@ pub out-length : (x : Admitted) (b o : Bytes) → length (outAfter x b o) ≡ le
 out-length (No r) b o = refl
 out-length Yes b o = go (leb (length b) (length o)) refl
   where
-    go : (t : Bool) → leb (length b) (length o) ≡ t → length (cond t (b ++ drop (length b) o) o) ≡ length o
+    go : (t : Bool) → leb (length b) (length o) ≡ t → length (cond t (writtenOver b o) o) ≡ length o
     go true e = let m = leb-true (length b) (length o) e in length-append b (drop (length b) o) ∙ omega (arith, length-drop (length b) o)
     go false e = refl
 
@@ -245,7 +246,7 @@ module _ (h : History) (snapshots deltas queries out₀ : Bytes) (count : ℕ) (
       pub gather-entry : j < 65
       gather-entry = omega (arith, few)
 
-      pub gather-takes : (z : Known) → Takes (asksOf h session asked) h d deltas (getD table j z) used out
+      pub gather-takes : (z : Known) → Takes (askAdmitted h session asked) h d deltas (getD table j z) used out
       gather-takes z = record {
         stored = formed-stored h snapshots deltas ok;
         within = steps-within h snapshots deltas ok session asked small d i;
@@ -253,7 +254,7 @@ module _ (h : History) (snapshots deltas queries out₀ : Bytes) (count : ℕ) (
         known = rw w (g .known d z few);
       }
 
-      module _ (t : Turn) (q : Bytes) (v : TurnIs (asksOf h session asked) h (mergedLast d (heldDeltas h deltas)) used out t q) where
+      module _ (t : Turn) (q : Bytes) (v : TurnIs (askAdmitted h session asked) h (mergedLast d (heldDeltas h deltas)) used out t q) where
         abbrev before : Laid
         before = record { replies = g .so-far; used = used; out = out }
 
@@ -284,9 +285,9 @@ module _ (h : History) (snapshots deltas queries out₀ : Bytes) (count : ℕ) (
         knows c z m (no f) =
             rw (getD-set-other table j c (t .known) z f)
             (knows-still (mergedLast c (heldDeltas h deltas)) used out (getD table c z) (g .known c z m) (t .used) q
-            (turn-more (asksOf h session asked) h (mergedLast d (heldDeltas h deltas)) used out (g .room) t q v)
-            (turn-length (asksOf h session asked) h (mergedLast d (heldDeltas h deltas)) used out (g .room) t q v)
-            (turn-front (asksOf h session asked) h (mergedLast d (heldDeltas h deltas)) used out (g .room) t q v))
+            (turn-more (askAdmitted h session asked) h (mergedLast d (heldDeltas h deltas)) used out (g .room) t q v)
+            (turn-length (askAdmitted h session asked) h (mergedLast d (heldDeltas h deltas)) used out (g .room) t q v)
+            (turn-front (askAdmitted h session asked) h (mergedLast d (heldDeltas h deltas)) used out (g .room) t q v))
 
         stored : set replies k (t .reply) ≡ (g .so-far ++ (t .reply ∷ [])) ++ replicate (384 - (k + 1)) noReply
         stored =
@@ -301,9 +302,9 @@ module _ (h : History) (snapshots deltas queries out₀ : Bytes) (count : ℕ) (
           admitted = g .admitted;
           many = g .many;
           passed = omega arith;
-          len = turn-length (asksOf h session asked) h (mergedLast d (heldDeltas h deltas)) used out (g .room) t q v ∙ g .len;
+          len = turn-length (askAdmitted h session asked) h (mergedLast d (heldDeltas h deltas)) used out (g .room) t q v ∙ g .len;
           slots = length-set table j (t .known) ∙ g .slots;
-          room = turn-within (asksOf h session asked) h (mergedLast d (heldDeltas h deltas)) used out (g .room) t q v;
+          room = turn-within (askAdmitted h session asked) h (mergedLast d (heldDeltas h deltas)) used out (g .room) t q v;
           known = λ c z m. knows c z m (ℕ-discrete c j);
           so-far = g .so-far ++ (t .reply ∷ []);
           counted = length-append (g .so-far) (t .reply ∷ []) ∙ omega (arith, g .counted);

@@ -12,12 +12,11 @@ use Rattle.serial.specs.declared.Serial.{Serial}
 use Rattle.payload.specs.Content.{Bytes}
 use Rattle.item.specs.declared.sink.Counts.{Counts}
 use Rattle.delta.specs.declared.refusal.Refusal.{Refusal}
-use Rattle.delta.specs.Demand.{holding}
 use Rattle.past.specs.declared.state.History.{History}
 use Rattle.past.specs.declared.query.Answer.{Answer}
 use Rattle.past.specs.declared.query.Answer.the-variants.{Refused, Served}
 use Rattle.past.specs.Query.{answerOf, queryOf, queryOut, queryAdmitted}
-use Rattle.past.specs.Run.{Run}
+use Rattle.past.specs.Run.{Reached}
 use Rattle.past.specs.Promise.{Promise}
 use Rattle.past.proofs.Queries.{out-refused, out-whole, counts-served}
 use Rattle.past.proofs.Runs.{promise}
@@ -191,7 +190,7 @@ every-refusal h snapshots deltas before q out r e =
 
 -- ---- in a run
 
-module _ (session keep : ℕ) (start : Serial) (r : Run) (p : Promise session keep start r) where
+module _ (session keep : ℕ) (start : Serial) (r : Reached) (p : Promise session keep start r) where
   appliance-of : Appliance start r
   appliance-of = record {
     admits = λ queries g. rw (p .formed, g);

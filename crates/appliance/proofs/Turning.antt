@@ -13,6 +13,7 @@ use borrow.Author.Tests.{leb-true, leb-false, le-leb, lt-leb}
 use Rattle.serial.specs.declared.Serial.{Serial}
 use Rattle.serial.specs.declared.Session.{Session}
 use Rattle.payload.specs.Content.{Bytes}
+use Rattle.payload.specs.Written.{writtenOver}
 use Rattle.item.specs.declared.sink.Counts.{Counts}
 use Rattle.delta.specs.declared.refusal.Refusal.{Refusal}
 use Rattle.delta.specs.declared.refusal.Refusal.the-variants.{NoRoom}
@@ -23,7 +24,7 @@ use Rattle.past.specs.declared.state.History.{History}
 use Rattle.past.specs.declared.query.Answer.the-variants.{Refused, Served}
 use Rattle.past.specs.declared.query.Queried.{Queried}
 use Rattle.past.specs.Store.{heldDeltas}
-use Rattle.past.specs.Query.{asksOf, mergedLast, queryAt}
+use Rattle.past.specs.Query.{askAdmitted, mergedLast, queryAt}
 use Rattle.history.specs.Place.{Stored}
 use Rattle.appliance.specs.declared.reply.Reply.{Reply}
 use Rattle.appliance.specs.declared.turn.Known.{Known}
@@ -74,7 +75,7 @@ module _ (h : History) (b : Bytes) (at : ℕ) (out : Bytes) (l : at ≤ length o
   }
 
   abbrev laid : Bytes
-  laid = take at out ++ (b ++ drop (length b) (drop at out))
+  laid = take at out ++ writtenOver b (drop at out)
 
   -- and stands behind what was used where it does
   fits : leb (length b) (length (drop at out)) ≡ true → (k : Known) → Remembers b (at + length b) laid k →
@@ -85,7 +86,7 @@ module _ (h : History) (b : Bytes) (at : ℕ) (out : Bytes) (l : at ≤ length o
   new-stands = record {
     counts = refl;
     within = omega arith;
-    bytes = ap (take (length b)) (drop-at (take at out) (b ++ drop (length b) (drop at out)) at front-length) ∙ take-append-seam b (drop (length b) (drop at out));
+    bytes = ap (take (length b)) (drop-at (take at out) (writtenOver b (drop at out)) at front-length) ∙ take-append-seam b (drop (length b) (drop at out));
   }
 
 -- ---- walk
@@ -166,7 +167,7 @@ module _ (h : History) (d : ℕ) (deltas : Bytes) (used : ℕ) (out : Bytes) (t 
         (take used out ++ (p ++ drop (length out - used) (drop used out)))
     walk-served c i a j =
         let s = served-fits h d deltas used out t q asked-of c i in
-        let o : p ≡ E ++ drop (length E) (drop used out) = wrote ∙ rw (s .0) in
+        let o : p ≡ writtenOver E (drop used out) = wrote ∙ rw (s .0) in
         rw (part-over used out p, j, o, s .1)
         (fits h E used out (t .room) (s .0) (Stands used (countsOf E)) (knows-stands E (used + length E) (laid h E used out (t .room)) used (countsOf E) (new-stands h E used out (t .room))))
 
@@ -225,7 +226,7 @@ module _ (h : History) (d : ℕ) (deltas : Bytes) (k : Known) (used : ℕ) (out 
     answer-shares = record { within = omega (arith, len-is, standing .within); room = t .room }
 
     abbrev over : Bytes
-    over = take used out ++ (D ++ drop (length D) (drop used out))
+    over = take used out ++ writtenOver D (drop used out)
 
     abbrev served : Counts → Turn
     served y = record { known = Stands at c; reply = servedAt used y; used = used + y .len }
@@ -262,19 +263,19 @@ pub ruleset answering = (answer-walks, answer-long, answer-shares, answer-shared
 -- ---- reply_to
 
 module _ (h : History) (session : Session) (asked : Serial) (d : ℕ) (deltas : Bytes) (k : Known) (used : ℕ) (out : Bytes)
-    (t : Takes (asksOf h session asked) h d deltas k used out) (x : Admitted) (e : x ≡ asksOf h session asked) where
+    (t : Takes (askAdmitted h session asked) h d deltas k used out) (x : Admitted) (e : x ≡ askAdmitted h session asked) where
   pub reply-refused : (r : Refusal) → x ≡ No r → (a : Turn) → a ≡ refusedTurn r k used →
-      TurnIs (asksOf h session asked) h (mergedLast d (heldDeltas h deltas)) used out a out
+      TurnIs (askAdmitted h session asked) h (mergedLast d (heldDeltas h deltas)) used out a out
   reply-refused r q a j =
-      let f : asksOf h session asked ≡ No r = sym e ∙ q in
+      let f : askAdmitted h session asked ≡ No r = sym e ∙ q in
       rw (j, f) (record { reply = refl; used = omega arith; bytes = sym (take-append-drop used out); known = t .known })
 
   module _ (q : x ≡ Yes) where
     pub reply-takes : Takes Yes h d deltas k used out
-    reply-takes = let f : asksOf h session asked ≡ Yes = sym e ∙ q in rw f at t
+    reply-takes = let f : askAdmitted h session asked ≡ Yes = sym e ∙ q in rw f at t
 
     pub reply-is : (a : Turn) (p : Bytes) → TurnIs Yes h (mergedLast d (heldDeltas h deltas)) used out a p →
-        TurnIs (asksOf h session asked) h (mergedLast d (heldDeltas h deltas)) used out a p
-    reply-is a p i = let f : asksOf h session asked ≡ Yes = sym e ∙ q in rw f i
+        TurnIs (askAdmitted h session asked) h (mergedLast d (heldDeltas h deltas)) used out a p
+    reply-is a p i = let f : askAdmitted h session asked ≡ Yes = sym e ∙ q in rw f i
 
 pub ruleset asking = (reply-refused, reply-takes, reply-is)

@@ -15,7 +15,7 @@ use Rattle.past.specs.declared.create.Creation.the-variants.{Done}
 use Rattle.past.specs.declared.query.Answer.the-variants.{Refused, Served}
 use Rattle.past.specs.Create.{createOf}
 use Rattle.past.specs.Query.{queryOut}
-use Rattle.past.specs.Run.{Call, Run, startOf, runOf}
+use Rattle.past.specs.Run.{Call, Reached, startOf, runOf}
 use Rattle.past.specs.Promise.{OfBytes, Leads, current}
 use Rattle.appliance.specs.declared.reply.Reply.{Reply}
 use Rattle.appliance.specs.QueryAll.{Asked, goodList, listAdmitted, replyOf, answerAt, Laid, laidOf}
@@ -47,7 +47,7 @@ EveryRefusal = (h : History) (snapshots deltas : Bytes) (before : List Asked) (q
     Refuses (laidOf h snapshots deltas before out) (laidOf h snapshots deltas (before ++ (q ∷ [])) out)
 
 -- in a run of calls from a fresh history
-pub record Appliance (start : Serial) (r : Run) : Type 0 where
+pub record Appliance (start : Serial) (r : Reached) : Type 0 where
   -- 7 never comes, and so 11 comes exactly for a bad list
   pub admits : (queries : Bytes) → goodList queries ≡ true → listAdmitted (r .world .history) (r .world .snapshots) (r .world .deltas) queries ≡ Yes
   -- once a first snapshot is accepted, the bytes at each served reply's offset lead its router to the current snapshot

@@ -83,15 +83,15 @@ abbrev pub answerAt : History → Bytes → Bytes → Asked → ℕ → Bytes �
 answerAt h snapshots deltas q used out = queryOf h (q .session) (q .serial) snapshots deltas (length (drop used out)) .answer
 
 -- and the output that it leaves
-abbrev pub outAt : History → Bytes → Bytes → Asked → ℕ → Bytes → Bytes
-outAt h snapshots deltas q used out = take used out ++ queryOut h (q .session) (q .serial) snapshots deltas (drop used out)
+abbrev pub outFrom : History → Bytes → Bytes → Asked → ℕ → Bytes → Bytes
+outFrom h snapshots deltas q used out = take used out ++ queryOut h (q .session) (q .serial) snapshots deltas (drop used out)
 
 -- one more query
 abbrev pub answered : History → Bytes → Bytes → Laid → Asked → Laid
 answered h snapshots deltas l q = record {
   replies = l .replies ++ (replyOf (l .used) (answerAt h snapshots deltas q (l .used) (l .out)) ∷ []);
   used = l .used + usedBy (answerAt h snapshots deltas q (l .used) (l .out));
-  out = outAt h snapshots deltas q (l .used) (l .out);
+  out = outFrom h snapshots deltas q (l .used) (l .out);
 }
 
 -- ---- all of them

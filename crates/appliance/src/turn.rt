@@ -16,7 +16,7 @@ ghost use mathlib.Core.Path.{_≡_};
 ghost use lib.ListN.{length};
 ghost use Rattle.delta.specs.declared.admit.Admitted.the-variants.{Yes};
 ghost use Rattle.past.specs.Store.{heldDeltas};
-ghost use Rattle.past.specs.Query.{asksOf, mergedLast};
+ghost use Rattle.past.specs.Query.{askAdmitted, mergedLast};
 ghost use Rattle.appliance.specs.declared.turn.Known.the-variants.{Nothing};
 ghost use Rattle.appliance.specs.Turn.{refusedTurn, sharedTurn, sharedOut, Shares, Takes, TurnIs};
 
@@ -113,8 +113,8 @@ pub(crate) fn reply_to(
     used: usize,
     out: &mut [u8],
 ) -> Turn
-    requires { ⌜ Takes (asksOf history session asked) history d (now deltas) known used (now out) ⌝ }
-    ensures { λ r. ⌜ TurnIs (asksOf history session asked) history (mergedLast d (heldDeltas history (now (deltas .entry)))) used (now (out .entry)) r (now (out .exit)) ⌝ }
+    requires { ⌜ Takes (askAdmitted history session asked) history d (now deltas) known used (now out) ⌝ }
+    ensures { λ r. ⌜ TurnIs (askAdmitted history session asked) history (mergedLast d (heldDeltas history (now (deltas .entry)))) used (now (out .entry)) r (now (out .exit)) ⌝ }
 {
     if let Admitted::No(refusal) = asks(history, session, asked) {
         return refuse(refusal, known, used);

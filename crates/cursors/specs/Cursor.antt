@@ -10,10 +10,12 @@ use Rattle.order.specs.Many.{lower, least, first, past}
 use Rattle.change.specs.Change.{Change}
 use Rattle.change.specs.Difference as change
 use Rattle.change.specs.Merge.{mergeAt, mergeAll}
+use Rattle.field.specs.declared.tag.Form.the-variants.{Delta}
 use Rattle.field.specs.declared.key.Key.{Key}
 use Rattle.field.specs.Places.{keyIn}
 use Rattle.payload.specs.Content.{Bytes}
 use Rattle.payload.specs.Payload.{changes}
+use Rattle.payload.specs.Limit.{limit}
 use Rattle.item.specs.declared.place.Act.{Act}
 use Rattle.item.specs.declared.place.Held.{Held}
 use Rattle.item.specs.declared.place.Entry.{Entry}
@@ -185,4 +187,4 @@ pub record NextIs (s : Bytes) (at₀ at ends : List ℕ) (from n : ℕ) (r : Ste
 -- the runs that take part have no more items than a delta store has bytes
 pub record Bounded (s : Bytes) (at ends : List ℕ) (from n : ℕ) : Type 0 where
   pub walks : Walks s at ends from n
-  pub few : itemsLeft s at ends from n ≤ 33_554_432
+  pub few : itemsLeft s at ends from n ≤ limit Delta

@@ -1,2 +1,3 @@
+-- what the contracts of inner functions say
 pub mod Cursor
 pub mod Front

@@ -45,7 +45,8 @@ use Rattle.walk.specs.declared.walk.Output.the-variants.{NoRoom, Written}
 use Rattle.delta.specs.declared.construct.Constructed.the-variants as constructed
 use Rattle.delta.specs.declared.merge.Merged.the-variants as merged
 use Rattle.delta.specs.declared.apply.Applied.the-variants as applied
-use Rattle.delta.specs.Admission.{Inputs, andThen, limitOf, judgedOf, refusalOf, admitOf}
+use Rattle.delta.specs.Admission.{andThen, limitAdmitted, judgedOf, verdictAdmitted, admitOf}
+use Rattle.delta.specs.Inputs.{Inputs}
 use Rattle.item.specs.Reading.{formOf, Ready}
 use Rattle.item.specs.Write.{cellAs, writes, plusAll, zero}
 use Rattle.walk.specs.Walk.{Runs, mergedAs, outputOf, wholeOut}
@@ -59,14 +60,14 @@ both-yes : (x y : Admitted) → andThen x y ≡ Yes → (x ≡ Yes) × (y ≡ Ye
 both-yes Yes y e = (refl, e)
 both-yes (No r) y e = absurd (let z : _≡_ {A = ℕ} 0 1 = cc in omega arith)
 
-limit-yes : (form : Form) (s : Bytes) (n : ℕ) → limitOf form s n ≡ Yes → length s ≤ limit form
+limit-yes : (form : Form) (s : Bytes) (n : ℕ) → limitAdmitted form s n ≡ Yes → length s ≤ limit form
 limit-yes form s n = go (leb (length s) (limit form)) refl
   where
     go : (t : Bool) → leb (length s) (limit form) ≡ t → cond t Yes (No (refusal.TooLong n)) ≡ Yes → length s ≤ limit form
     go true e h = leb-true (length s) (limit form) e
     go false e h = absurd (let z : _≡_ {A = ℕ} 0 1 = cc in omega arith)
 
-judged-yes : (n : ℕ) (v : Verdict) → refusalOf n v ≡ Yes → v ≡ verdict.Fine
+judged-yes : (n : ℕ) (v : Verdict) → verdictAdmitted n v ≡ Yes → v ≡ verdict.Fine
 judged-yes n verdict.Fine e = refl
 judged-yes n (verdict.Bad at) e = absurd (let z : _≡_ {A = ℕ} 0 1 = cc in omega arith)
 judged-yes n (verdict.Senseless at) e = absurd (let z : _≡_ {A = ℕ} 0 1 = cc in omega arith)
@@ -74,8 +75,8 @@ judged-yes n (verdict.NotAbove at) e = absurd (let z : _≡_ {A = ℕ} 0 1 = cc 
 
 pub admitted-inputs : (f : Form) (a : Bytes) (g : Form) (b : Bytes) → admitOf f a g b ≡ Yes → Inputs f a g b
 admitted-inputs f a g b e =
-    let p = both-yes (limitOf f a 1) (andThen (limitOf g b 2) (andThen (judgedOf f a 1) (judgedOf g b 2))) e in
-    let q = both-yes (limitOf g b 2) (andThen (judgedOf f a 1) (judgedOf g b 2)) (p .1) in
+    let p = both-yes (limitAdmitted f a 1) (andThen (limitAdmitted g b 2) (andThen (judgedOf f a 1) (judgedOf g b 2))) e in
+    let q = both-yes (limitAdmitted g b 2) (andThen (judgedOf f a 1) (judgedOf g b 2)) (p .1) in
     let r = both-yes (judgedOf f a 1) (judgedOf g b 2) (q .1) in
     record {
       short-a = limit-yes f a 1 (p .0);
@@ -151,7 +152,7 @@ module _ (s d : Bytes) (i : Inputs Snapshot s Delta d) (e : fitOf s d ≡ fit.Al
       let a = faithful Snapshot .map-of s (i .fine-a) in
       let b = faithful Delta .map-of d (i .fine-b) in
       ap (writes Snapshot) (sym (apply-as-merge strings strings (items s) (changes d) (a .sorted) (b .sorted) (fit-applies s d e)) ∙ diff-new bytes bytes (apply bytes (items s) (changes d)))
-      ∙ ap run.encode (snapshot-writes (apply bytes (items s) (changes d)))
+      ∙ ap run.cellBytes (snapshot-writes (apply bytes (items s) (changes d)))
 
 -- ---- what put_whole answered
 

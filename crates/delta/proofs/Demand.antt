@@ -1,12 +1,12 @@
 -- Demand 3, first part: what the answers of the three entries come to for good snapshots A, B and C within their limit.
 use Prim.Native.Nat.{ℕ, _+_, _≤_}
 use mathlib.Core.Path.{_≡_, refl, sym, ap, _∙_}
-use mathlib.Core.List.{[], _∷_, _++_}
+use mathlib.Core.List.{[], _∷_}
 use mathlib.Core.Bool.{Bool, true, false, cond}
 use lib.Dec.{leb, eqb}
 use native.Mathlib.Omega.{arith}
 use borrow.Author.Tests.{le-leb, eq-eqb, ne-eqb, eqb-true}
-use lib.ListN.{length, drop}
+use lib.ListN.{length}
 use Rattle.order.proofs.Comparison.{strings}
 use Rattle.change.proofs.Whole.{compose}
 use Rattle.serial.specs.declared.Serial.{Serial}
@@ -18,6 +18,7 @@ use Rattle.field.specs.declared.verdict.Verdict.the-variants.{Fine, Bad, Sensel
 use Rattle.field.specs.Verdict.{verdict}
 use Rattle.field.specs.Run.{AllBytes}
 use Rattle.payload.specs.Content.{Bytes}
+use Rattle.payload.specs.Written.{writtenOver}
 use Rattle.payload.specs.Limit.{limit}
 use Rattle.payload.specs.Valid.{IsMap}
 use Rattle.payload.specs.Payload.{encode, items, changes}
@@ -34,7 +35,7 @@ use Rattle.delta.specs.declared.construct.Constructed.the-variants as co
 use Rattle.delta.specs.declared.merge.Merged.the-variants as merged
 use Rattle.delta.specs.declared.apply.Applied.the-variants as applied
 use Rattle.delta.specs.Refusal.{numberOf}
-use Rattle.delta.specs.Admission.{refusalOf, andThen, admitOf}
+use Rattle.delta.specs.Admission.{verdictAdmitted, andThen, admitOf}
 use Rattle.delta.specs.Answer.{differenceOf, mergedOf, appliedOf, countsOf, outAfter, constructAt, constructOf, constructOut, mergeOf, mergeOut, applyAdmitted, applyOf, applyOut}
 use Rattle.delta.specs.Demand.{GoodSnapshot, Acceptable, Demand}
 use Rattle.delta.proofs.Answering.{admitted-inputs}
@@ -45,7 +46,7 @@ admitted : (f : Form) (a : Bytes) (g : Form) (b : Bytes) → length a ≤ limit 
 admitted f a g b h k x y = rw (le-leb (length a) (limit f) h, le-leb (length b) (limit g) k, x, y)
 
 -- an answer that fits, then the output as it was
-out-whole : (d o : Bytes) → length d ≤ length o → outAfter Yes d o ≡ d ++ drop (length d) o
+out-whole : (d o : Bytes) → length d ≤ length o → outAfter Yes d o ≡ writtenOver d o
 out-whole d o h = rw (le-leb (length d) (length o) h)
 
 no-bytes : (s : Bytes) → length s ≡ 0 → s ≡ []
@@ -99,7 +100,7 @@ module _ (A B : Bytes) (a : Acceptable A) (b : Acceptable B) where
       let z : length (differenceOf A B) ≡ 0 → ⊥ = λ e. n (difference-empty A B (a .good) (b .good) (no-bytes (differenceOf A B) e)) in
       rw (yes, ne-eqb (length (differenceOf A B)) 0 z, le-leb (length (differenceOf A B)) room h)
 
-  pub construct-writes : (out : Bytes) → length (differenceOf A B) ≤ length out → constructOut A B out ≡ differenceOf A B ++ drop (length (differenceOf A B)) out
+  pub construct-writes : (out : Bytes) → length (differenceOf A B) ≤ length out → constructOut A B out ≡ writtenOver (differenceOf A B) out
   unfolding constructOut
   construct-writes out h = rw yes (out-whole (differenceOf A B) out h)
 
@@ -115,7 +116,7 @@ module _ (A B : Bytes) (a : Acceptable A) (b : Acceptable B) where
   unfolding applyOf
   applies-to-old room h = rw (fitting, difference-yields A B (a .good) (b .good), le-leb (length B) room h)
 
-  pub yields-new : (out : Bytes) → length B ≤ length out → applyOut A (differenceOf A B) out ≡ B ++ drop (length B) out
+  pub yields-new : (out : Bytes) → length B ≤ length out → applyOut A (differenceOf A B) out ≡ writtenOver B out
   unfolding applyOut
   yields-new out h = rw (fitting, difference-yields A B (a .good) (b .good)) (out-whole B out h)
 
@@ -139,12 +140,12 @@ module _ (A B C : Bytes) (a : Acceptable A) (b : Acceptable B) (c : Acceptable C
   merges serial room h = rw (yes-both, merged-composes, le-leb (length (differenceOf A C)) room h)
 
   pub merge-writes : (out : Bytes) → length (differenceOf A C) ≤ length out →
-      mergeOut (differenceOf A B) (differenceOf B C) out ≡ differenceOf A C ++ drop (length (differenceOf A C)) out
+      mergeOut (differenceOf A B) (differenceOf B C) out ≡ writtenOver (differenceOf A C) out
   unfolding mergeOut
   merge-writes out h = rw (yes-both, merged-composes) (out-whole (differenceOf A C) out h)
 
   -- so the merged delta, applied to A, gives C byte for byte
-  pub merged-yields : (out : Bytes) → length C ≤ length out → applyOut A (mergedOf (differenceOf A B) (differenceOf B C)) out ≡ C ++ drop (length C) out
+  pub merged-yields : (out : Bytes) → length C ≤ length out → applyOut A (mergedOf (differenceOf A B) (differenceOf B C)) out ≡ writtenOver C out
   merged-yields out h = rw merged-composes (yields-new A C a c out h)
 
 -- the merge of two good deltas is a good delta
@@ -166,7 +167,7 @@ input-four f a g b r = go (leb (length a) (limit f)) (leb (length b) (limit g)) 
     other q e n m = let s : q ≡ r = cc in n (ap numberOf s ∙ m)
 
     go : (t u : Bool) (v w : Verdict) →
-        andThen (cond t Yes (No (TooLong 1))) (andThen (cond u Yes (No (TooLong 2))) (andThen (refusalOf 1 v) (refusalOf 2 w))) ≡ No r → ¬ (numberOf r ≡ 4)
+        andThen (cond t Yes (No (TooLong 1))) (andThen (cond u Yes (No (TooLong 2))) (andThen (verdictAdmitted 1 v) (verdictAdmitted 2 w))) ≡ No r → ¬ (numberOf r ≡ 4)
     go false u v w e = other (TooLong 1) e (λ (n : 10 ≡ 4). omega arith)
     go true false v w e = other (TooLong 2) e (λ (n : 10 ≡ 4). omega arith)
     go true true (Bad at) w e = other (refusal.Bad 1 at) e (λ (n : 1 ≡ 4). omega arith)

@@ -73,5 +73,5 @@ module _ (A B : Bytes) (a : GoodSnapshot A) (b : GoodSnapshot B) where
 
 -- and a snapshot's difference to itself is empty
 pub difference-self : (A : Bytes) → GoodSnapshot A → differenceOf A A ≡ []
-unfolding differenceOf encode run.encode
+unfolding differenceOf encode run.cellBytes
 difference-self A a = rw (diff-nil strings strings (items A) (good-map A a .sorted))

@@ -16,7 +16,7 @@ use Rattle.field.specs.Verdict.{judge, verdictF, verdict}
 use Rattle.field.specs.Cells.{cells, cellsF, field}
 use Rattle.field.specs.Cells as run
 use Rattle.payload.specs.Content.{Bytes}
-use Rattle.payload.specs.Count.{announced}
+use Rattle.payload.specs.Count.{announcedIn}
 use Rattle.payload.specs.Payload.{entries, encode}
 use Rattle.walk.specs.declared.fit.Fit.the-variants.{Misfit}
 use Rattle.walk.specs.Fit.{misfit, fitOf}
@@ -74,7 +74,7 @@ pub record Examples : Type 0 where
   right-first : mergeTree mergedOf right ≡ []
   -- an update is among the announced of the counts, but brings no customer
   update-leads : LeadsTo (held p) (held q) (updated p q)
-  update-announced : announced (updated p q) ≡ 1
+  update-announced : announcedIn (updated p q) ≡ 1
   update-brings : tagged 0x31 (updated p q) ≡ 0
   customers-after : tagged 0x03 (held q) ≡ 1
   -- and an announced origin is one more
@@ -92,7 +92,7 @@ pub record Examples : Type 0 where
   bad-first : admitOneOf Snapshot (0x03 ∷ 0 ∷ 12 ∷ (customer ++ (customer ++ p))) ≡ No (Bad 1 0)
 
 pub examples : Examples
-unfolding verdict verdictF judge front goodBody tagOf kindOf keyOf goodOrigin goodPrefix clean goodAspa goodUpdate goodProviders asns ascending ascendingFrom sensible sensibleAspa sensibleUpdate sensibleProviders sensibleAsns isIn cells cellsF field run.encode entries encode walk misfit differenceOf mergedOf appliedOf
+unfolding verdict verdictF judge front goodBody tagOf kindOf keyOf goodOrigin goodPrefix clean goodAspa goodUpdate goodProviders asns ascending ascendingFrom sensible sensibleAspa sensibleUpdate sensibleProviders sensibleAsns isIn cells cellsF field run.cellBytes entries encode walk misfit differenceOf mergedOf appliedOf
 examples = record {
   idle = record { fine = refl; fits = refl; yields = refl };
   idle-length = refl;

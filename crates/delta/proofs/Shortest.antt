@@ -34,7 +34,7 @@ use Rattle.delta.specs.declared.admit.Admitted.{Admitted}
 use Rattle.delta.specs.declared.admit.Admitted.the-variants.{Yes, No}
 use Rattle.delta.specs.declared.apply.Applied.the-variants as applied
 use Rattle.delta.specs.Admission.{andThen, admitOf}
-use Rattle.delta.specs.Answer.{differenceOf, mergedOf, appliedOf, fitRefusal, applyAdmitted, applyAnswer, applyOf}
+use Rattle.delta.specs.Answer.{differenceOf, mergedOf, appliedOf, fitAdmitted, applyAdmitted, applyAnswer, applyOf}
 use Rattle.delta.specs.Demand.{GoodSnapshot, Acceptable}
 use Rattle.delta.specs.Shortest.{LeadsTo, NoLonger, mergeInto, Shortest}
 use Rattle.delta.proofs.Answering.{admitted-inputs}
@@ -56,10 +56,10 @@ cells-of form s o e = ap cells (sym (faithful form .bytes-back s o e)) ∙ cells
 abbrev width : Cell → ℕ
 width c = 3 + length (c .body)
 
-run-length : (cs : List Cell) → length (run.encode cs) ≡ total width cs
-unfolding run.encode run.field
+run-length : (cs : List Cell) → length (run.cellBytes cs) ≡ total width cs
+unfolding run.cellBytes run.field
 run-length [] = refl
-run-length (c ∷ cs) = omega (arith, length-append (c .body) (run.encode cs), run-length cs)
+run-length (c ∷ cs) = omega (arith, length-append (c .body) (run.cellBytes cs), run-length cs)
 
 module _ (A C D : Bytes) (a : GoodSnapshot A) (l : LeadsTo A C D) (c : GoodSnapshot C) (o : AllBytes D) where
   -- the fields of the difference
@@ -72,13 +72,13 @@ module _ (A C D : Bytes) (a : GoodSnapshot A) (l : LeadsTo A C D) (c : GoodSnaps
       rw (difference-cells, cells-of Delta D o (l .fine))
       (part-map (cellFor Delta) (short.within strings strings (items A) (items C) (changes D) (good-map A a .sorted) (good-map C c .sorted) (leads-map A C D a l)))
 
-  difference-back : run.encode (cells (differenceOf A C)) ≡ differenceOf A C
+  difference-back : run.cellBytes (cells (differenceOf A C)) ≡ differenceOf A C
   unfolding differenceOf encode
-  difference-back = ap run.encode (cells-encode (map (cellFor Delta) (diff bytes bytes (items A) (items C))))
+  difference-back = ap run.cellBytes (cells-encode (map (cellFor Delta) (diff bytes bytes (items A) (items C))))
 
-  delta-back : run.encode (cells D) ≡ D
+  delta-back : run.cellBytes (cells D) ≡ D
   unfolding encode
-  delta-back = ap run.encode (cells-of Delta D o (l .fine)) ∙ faithful Delta .bytes-back D o (l .fine)
+  delta-back = ap run.cellBytes (cells-of Delta D o (l .fine)) ∙ faithful Delta .bytes-back D o (l .fine)
 
   -- no fewer items, no fewer bytes
   pub no-longer : NoLonger (differenceOf A C) D
@@ -90,7 +90,7 @@ module _ (A C D : Bytes) (a : GoodSnapshot A) (l : LeadsTo A C D) (c : GoodSnaps
         within = p;
         items = part-length p;
         bytes = omega (arith, part-total width p);
-        only = λ h. sym delta-back ∙ ap run.encode (part-whole p h) ∙ difference-back;
+        only = λ h. sym delta-back ∙ ap run.cellBytes (part-whole p h) ∙ difference-back;
       }
 
 -- neighbouring differences of good snapshots, merged, are the difference of their ends, however long they are
@@ -115,7 +115,7 @@ both-yes : (x y : Admitted) → andThen x y ≡ Yes → (x ≡ Yes) × (y ≡ Ye
 both-yes Yes y e = (refl, e)
 both-yes (No r) y e = never (cc)
 
-fit-yes : (f : Fit) → fitRefusal f ≡ Yes → f ≡ All
+fit-yes : (f : Fit) → fitAdmitted f ≡ Yes → f ≡ All
 fit-yes All e = refl
 fit-yes (Misfit at) e = never (cc)
 
@@ -126,7 +126,7 @@ accepts A D room n h = go (applyAdmitted A D) refl h
     go : (x : Admitted) → applyAdmitted A D ≡ x → applyAnswer x (appliedOf A D) room ≡ applied.Snapshot n → LeadsTo A (appliedOf A D) D
     go (No r) e h = never (cc)
     go Yes e h =
-        let y = both-yes (admitOf Snapshot A Delta D) (fitRefusal (fitOf A D)) e in
+        let y = both-yes (admitOf Snapshot A Delta D) (fitAdmitted (fitOf A D)) e in
         record { fine = admitted-inputs Snapshot A Delta D (y .0) .fine-b; fits = fit-yes (fitOf A D) (y .1); yields = refl }
 
 pub shortest : Shortest

@@ -1,6 +1,5 @@
 -- Which inputs are read: refusal 10 over all arguments, then 1, 12 and 2, the first argument first.
-use Prim.Native.Nat.{ℕ, _≤_}
-use mathlib.Core.Path.{_≡_}
+use Prim.Native.Nat.{ℕ}
 use mathlib.Core.Bool.{cond}
 use lib.Dec.{leb}
 use lib.ListN.{length}
@@ -15,34 +14,27 @@ use Rattle.delta.specs.declared.admit.Admitted.{Admitted}
 use Rattle.delta.specs.declared.admit.Admitted.the-variants.{Yes, No}
 
 -- the check's verdict as a refusal of an argument
-abbrev pub refusalOf : ℕ → Verdict → Admitted
-refusalOf argument verdict.Fine = Yes
-refusalOf argument (verdict.Bad at) = No (Bad argument at)
-refusalOf argument (verdict.Senseless at) = No (Senseless argument at)
-refusalOf argument (verdict.NotAbove at) = No (NotAbove argument at)
+abbrev pub verdictAdmitted : ℕ → Verdict → Admitted
+verdictAdmitted argument verdict.Fine = Yes
+verdictAdmitted argument (verdict.Bad at) = No (Bad argument at)
+verdictAdmitted argument (verdict.Senseless at) = No (Senseless argument at)
+verdictAdmitted argument (verdict.NotAbove at) = No (NotAbove argument at)
 
 abbrev pub judgedOf : Form → Bytes → ℕ → Admitted
-judgedOf form s argument = refusalOf argument (verdict form s)
+judgedOf form s argument = verdictAdmitted argument (verdict form s)
 
 -- the first refusal, or what comes next
 abbrev pub andThen : Admitted → Admitted → Admitted
 andThen Yes next = next
 andThen (No r) next = No r
 
-abbrev pub limitOf : Form → Bytes → ℕ → Admitted
-limitOf form s argument = cond (leb (length s) (limit form)) Yes (No (TooLong argument))
+abbrev pub limitAdmitted : Form → Bytes → ℕ → Admitted
+limitAdmitted form s argument = cond (leb (length s) (limit form)) Yes (No (TooLong argument))
 
 -- a lone input
 abbrev pub admitOneOf : Form → Bytes → Admitted
-admitOneOf form s = andThen (limitOf form s 1) (judgedOf form s 1)
+admitOneOf form s = andThen (limitAdmitted form s 1) (judgedOf form s 1)
 
 -- a pair of inputs
 abbrev pub admitOf : Form → Bytes → Form → Bytes → Admitted
-admitOf first a second b = andThen (limitOf first a 1) (andThen (limitOf second b 2) (andThen (judgedOf first a 1) (judgedOf second b 2)))
-
--- two good inputs within their limits
-pub record Inputs (f : Form) (a : Bytes) (g : Form) (b : Bytes) : Type 0 where
-  pub short-a : length a ≤ limit f
-  pub short-b : length b ≤ limit g
-  pub fine-a : verdict f a ≡ verdict.Fine
-  pub fine-b : verdict g b ≡ verdict.Fine
+admitOf first a second b = andThen (limitAdmitted first a 1) (andThen (limitAdmitted second b 2) (andThen (judgedOf first a 1) (judgedOf second b 2)))

@@ -1,9 +1,8 @@
 -- What the three entries answer, and what they leave in `out`.
 use Prim.Native.Nat.{ℕ}
-use mathlib.Core.List.{_++_}
 use mathlib.Core.Bool.{cond}
 use lib.Dec.{leb, eqb}
-use lib.ListN.{length, drop}
+use lib.ListN.{length}
 use Rattle.order.specs.Comparison.{bytes}
 use Rattle.change.specs.Difference.{diff}
 use Rattle.change.specs.Merge.{merge}
@@ -13,7 +12,8 @@ use Rattle.serial.specs.Serial.{nextOf}
 use Rattle.field.specs.declared.tag.Form.the-variants.{Snapshot, Delta}
 use Rattle.payload.specs.Content.{Bytes}
 use Rattle.payload.specs.Payload.{encode, items, changes}
-use Rattle.payload.specs.Count.{announced, withdrawn}
+use Rattle.payload.specs.Count.{announcedIn, withdrawnIn}
+use Rattle.payload.specs.Written.{writtenIfRoom}
 use Rattle.delta.specs.declared.refusal.Refusal.the-variants.{NoRoom, CannotApply}
 use Rattle.delta.specs.declared.admit.Admitted.{Admitted}
 use Rattle.delta.specs.declared.admit.Admitted.the-variants.{Yes, No}
@@ -41,12 +41,12 @@ appliedOf snapshot delta = encode Snapshot (apply bytes (items snapshot) (change
 
 -- the length of a delta, and its counts of tags
 abbrev pub countsOf : Bytes → Counts
-countsOf d = record { len = length d; announced = announced d; withdrawn = withdrawn d }
+countsOf d = record { len = length d; announced = announcedIn d; withdrawn = withdrawnIn d }
 
--- the answer's bytes, then `out` as it was; where they do not fit, or the call is refused, `out` as it was
+-- the answer's bytes over `out`; where they do not fit, or the call is refused, `out` as it was
 abbrev pub outAfter : Admitted → Bytes → Bytes → Bytes
 outAfter (No r) answer out = out
-outAfter Yes answer out = cond (leb (length answer) (length out)) (answer ++ drop (length answer) out) out
+outAfter Yes answer out = writtenIfRoom answer out
 
 -- old, new, old serial, room
 abbrev pub constructAt : Admitted → Bytes → Serial → ℕ → Constructed
@@ -73,12 +73,12 @@ unfoldable pub mergeOut : Bytes → Bytes → Bytes → Bytes
 mergeOut earlier later out = outAfter (admitOf Delta earlier Delta later) (mergedOf earlier later) out
 
 -- snapshot, delta, room: refusal 3 comes after 10, 1, 12 and 2
-abbrev pub fitRefusal : Fit → Admitted
-fitRefusal All = Yes
-fitRefusal (Misfit at) = No (CannotApply at)
+abbrev pub fitAdmitted : Fit → Admitted
+fitAdmitted All = Yes
+fitAdmitted (Misfit at) = No (CannotApply at)
 
 abbrev pub applyAdmitted : Bytes → Bytes → Admitted
-applyAdmitted snapshot delta = andThen (admitOf Snapshot snapshot Delta delta) (fitRefusal (fitOf snapshot delta))
+applyAdmitted snapshot delta = andThen (admitOf Snapshot snapshot Delta delta) (fitAdmitted (fitOf snapshot delta))
 
 abbrev pub applyAnswer : Admitted → Bytes → ℕ → Applied
 applyAnswer (No r) s room = applied.Refused r

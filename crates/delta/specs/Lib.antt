@@ -3,3 +3,5 @@ pub mod Admission
 pub mod Answer
 pub mod Demand
 pub mod Shortest
+-- what only the contracts of inner functions say
+pub mod Inputs

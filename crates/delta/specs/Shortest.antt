@@ -16,7 +16,7 @@ use Rattle.field.specs.Verdict.{verdict}
 use Rattle.field.specs.Cells.{cells}
 use Rattle.field.specs.Run.{AllBytes}
 use Rattle.payload.specs.Content.{Bytes}
-use Rattle.payload.specs.Count.{countTags, announced, withdrawn}
+use Rattle.payload.specs.Count.{countTags, announcedIn, withdrawnIn}
 use Rattle.payload.specs.Limit.{limit}
 use Rattle.walk.specs.declared.fit.Fit.the-variants.{All}
 use Rattle.walk.specs.Fit.{fitOf}
@@ -65,7 +65,7 @@ pub record Balance (A D C : Bytes) : Type 0 where
   -- ASPAs, one for each customer: an update (tag 0x33), which an answer's counts have among the announced, stands on neither side
   pub customers : tagged 0x03 C + tagged 0x32 D ≡ tagged 0x03 A + tagged 0x31 D
   -- all items, by the counts of an answer
-  pub all : length (cells C) + withdrawn D + tagged 0x33 D ≡ length (cells A) + announced D
+  pub all : length (cells C) + withdrawnIn D + tagged 0x33 D ≡ length (cells A) + announcedIn D
 
 pub record Shortest : Type 0 where
   -- each delta that `apply` accepts on A leads from A to what it writes

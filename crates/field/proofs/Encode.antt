@@ -17,7 +17,7 @@ use Rattle.field.specs.declared.verdict.Verdict.the-variants.{Fine}
 use Rattle.field.specs.Tag.{goodBody, sensible}
 use Rattle.field.specs.Head.{whole, front}
 use Rattle.field.specs.Verdict.{verdict}
-use Rattle.field.specs.Cells.{Cell, cellKey, cells, field, encode}
+use Rattle.field.specs.Cells.{Cell, cellKey, cells, field, cellBytes}
 use Rattle.field.proofs.Fronts.{opens}
 use Rattle.field.specs.Run.{AllBytes, Run, done, more}
 use Rattle.field.proofs.Run.{cells-end, cells-more, fine-run, run-verdict}
@@ -30,11 +30,11 @@ front-field tag b s =
     rw (div-add-mod' (length b) 256, le-leb (length b) (length (b ++ s)) w, take-append-seam b s, drop-append-seam b s)
 
 -- cells are read as they were written
-pub cells-encode : (cs : List Cell) → cells (encode cs) ≡ cs
-unfolding encode
+pub cells-encode : (cs : List Cell) → cells (cellBytes cs) ≡ cs
+unfolding cellBytes
 cells-encode [] = cells-end
 cells-encode (c ∷ cs) =
-    cells-more (field (c .tag) (c .body) ++ encode cs) (c .tag) (c .body) (encode cs) (front-field (c .tag) (c .body) (encode cs))
+    cells-more (field (c .tag) (c .body) ++ cellBytes cs) (c .tag) (c .body) (cellBytes cs) (front-field (c .tag) (c .body) (cellBytes cs))
     ∙ ap (λ (l : List Cell). c ∷ l) (cells-encode cs)
 
 -- ---- good cells, behind the key k
@@ -45,14 +45,14 @@ pub data Ascent (form : Form) : List ℕ → List Cell → Type 0 where
       → sensible form (c .tag) (c .body) ≡ true → bytes k (cellKey form c) ≡ Less → Ascent form (cellKey form c) cs → Ascent form k (c ∷ cs)
 
 -- good cells are a good run when written
-pub ascent-run : (form : Form) {k : List ℕ} {cs : List Cell} → Ascent form k cs → Run form k (encode cs)
-unfolding encode
+pub ascent-run : (form : Form) {k : List ℕ} {cs : List Cell} → Ascent form k cs → Run form k (cellBytes cs)
+unfolding cellBytes
 ascent-run form none = done
 ascent-run form (next {c = c} {cs = cs} g z o a) =
-    more (c .tag) (c .body) (encode cs) (front-field (c .tag) (c .body) (encode cs)) g z o (ascent-run form a)
+    more (c .tag) (c .body) (cellBytes cs) (front-field (c .tag) (c .body) (cellBytes cs)) g z o (ascent-run form a)
 
-pub ascent-fine : (form : Form) (cs : List Cell) → Ascent form (0 ∷ []) cs → verdict form (encode cs) ≡ Fine
-ascent-fine form cs a = run-verdict form (encode cs) (ascent-run form a)
+pub ascent-fine : (form : Form) (cs : List Cell) → Ascent form (0 ∷ []) cs → verdict form (cellBytes cs) ≡ Fine
+ascent-fine form cs a = run-verdict form (cellBytes cs) (ascent-run form a)
 
 -- and a good run has good cells
 pub run-ascent : (form : Form) {k s : List ℕ} → Run form k s → Ascent form k (cells s)
@@ -82,13 +82,13 @@ field-front s tag b rest bs e =
 pub rest-bytes : (s : List ℕ) (tag : ℕ) (b rest : List ℕ) → AllBytes s → s ≡ field tag b ++ rest → AllBytes rest
 rest-bytes s tag b rest bs e i = rw (e, getD-append-add (field tag b) rest i 0) at (bs (length (field tag b) + i))
 
-pub encode-cells : (form : Form) {k s : List ℕ} → Run form k s → AllBytes s → encode (cells s) ≡ s
-unfolding encode
+pub encode-cells : (form : Form) {k s : List ℕ} → Run form k s → AllBytes s → cellBytes (cells s) ≡ s
+unfolding cellBytes
 encode-cells form done bs = rw cells-end
 encode-cells form (more {s = s} tag b rest e g z o r) bs =
     let f = field-front s tag b rest bs e in
     rw (cells-more s tag b rest e) (ap (λ (l : List ℕ). field tag b ++ l) (encode-cells form r (rest-bytes s tag b rest bs f)) ∙ sym f)
 
 -- a good run of bytes is written as it was read
-pub good-encode : (form : Form) (s : List ℕ) → verdict form s ≡ Fine → ((i : ℕ) → Fits w8 (getD s i 0)) → encode (cells s) ≡ s
+pub good-encode : (form : Form) (s : List ℕ) → verdict form s ≡ Fine → ((i : ℕ) → Fits w8 (getD s i 0)) → cellBytes (cells s) ≡ s
 good-encode form s e bs = encode-cells form (fine-run form s e) (λ i. bs i .fits)

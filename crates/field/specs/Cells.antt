@@ -36,6 +36,6 @@ unfoldable pub field : ℕ → List ℕ → List ℕ
 field tag b = tag ∷ length b / 256 ∷ length b % 256 ∷ b
 
 -- cells as a run of fields
-unfoldable pub encode : List Cell → List ℕ
-encode [] = []
-encode (c ∷ cs) = field (c .tag) (c .body) ++ encode cs
+unfoldable pub cellBytes : List Cell → List ℕ
+cellBytes [] = []
+cellBytes (c ∷ cs) = field (c .tag) (c .body) ++ cellBytes cs

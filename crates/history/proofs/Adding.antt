@@ -16,10 +16,11 @@ use Rattle.payload.specs.Content.{Bytes}
 use Rattle.payload.specs.Limit.{limit}
 use Rattle.delta.specs.declared.refusal.Refusal.the-variants.{TooLong}
 use Rattle.delta.specs.declared.admit.Admitted.the-variants.{Yes, No}
-use Rattle.delta.specs.Admission.{refusalOf, andThen, admitOneOf}
+use Rattle.delta.specs.Admission.{verdictAdmitted, andThen, admitOneOf}
 use Rattle.item.proofs.Places.{drop-take}
 use Rattle.past.specs.declared.state.History.{History}
-use Rattle.past.specs.Store.{total, cuts, joined, heldSnapshot, heldLengths, heldDeltas, lengthsOf, storeAfter}
+use Rattle.past.specs.Store.{total, cuts, joined, heldSnapshot, heldLengths, heldDeltas, lengthsOf}
+use Rattle.payload.specs.Written.{writtenOver}
 use Rattle.past.specs.WellFormed.{isFine, isGood, every, goodKeep, inRange, goodSerial, goodStart, wellFormed}
 use Rattle.history.specs.Check.{goodState, goodSnapshot, goodRuns, goodDeltas}
 use Rattle.past.specs.Update.{pushed, deltasWith, nextState}
@@ -45,10 +46,10 @@ fine (verdict.NotAbove at) e = absurd (let z : _≡_ {A = ℕ} 0 1 = cc in omega
 
 pub record Formed (h : History) (snapshots deltas : Bytes) : Type 0 where
   pub ranged : Ranged h
-  pub short : length snapshots ≤ 16_777_216
+  pub short : length snapshots ≤ limit Snapshot
   pub within : h .snapshot ≤ length snapshots
   pub good : verdict Snapshot (heldSnapshot h snapshots) ≡ verdict.Fine
-  pub limited : length deltas ≤ 33_554_432
+  pub limited : length deltas ≤ limit Delta
   pub room : total (heldLengths h) ≤ length deltas
 
 state-ranged : (h : History) → goodState h ≡ true → Ranged h
@@ -78,10 +79,10 @@ formed-is h s d e =
       room = leb-true (total (heldLengths h)) (length d) (v .0);
     }
 
-pub admitted-short : (s : Bytes) → admitOneOf Snapshot s ≡ Yes → length s ≤ 16_777_216
+pub admitted-short : (s : Bytes) → admitOneOf Snapshot s ≡ Yes → length s ≤ limit Snapshot
 admitted-short s = go (leb (length s) (limit Snapshot)) refl
   where
-    go : (t : Bool) → leb (length s) (limit Snapshot) ≡ t → andThen (cond t Yes (No (TooLong 1))) (refusalOf 1 (verdict Snapshot s)) ≡ Yes → length s ≤ 16_777_216
+    go : (t : Bool) → leb (length s) (limit Snapshot) ≡ t → andThen (cond t Yes (No (TooLong 1))) (verdictAdmitted 1 (verdict Snapshot s)) ≡ Yes → length s ≤ limit Snapshot
     go true q e = leb-true (length s) (limit Snapshot) q
     go false q e = absurd (let z : _≡_ {A = ℕ} 0 1 = cc in omega arith)
 
@@ -182,7 +183,7 @@ module _ (h : History) (s d : Bytes) (f : Formed h s d) where
     with-joined = ap joined with-is ∙ joined-push (cuts K (drop F d)) c ∙ ap (λ (b : Bytes). b ++ c) (joined-cuts K (drop F d))
 
     -- the store
-    pub with-store : laid F (total K) c d ≡ storeAfter (joined (deltasWith h d c)) d
+    pub with-store : laid F (total K) c d ≡ writtenOver (joined (deltasWith h d c)) d
     unfolding laid
     with-store =
         let l : length (joined (deltasWith h d c)) ≡ total K + length c = joined-length (deltasWith h d c) ∙ with-total in

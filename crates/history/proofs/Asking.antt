@@ -34,7 +34,7 @@ use Rattle.past.specs.declared.query.Answer.the-variants.{Served}
 use Rattle.past.specs.declared.query.Queried.{Queried}
 use Rattle.past.specs.Store.{total, heldLengths, heldDeltas}
 use Rattle.past.specs.WellFormed.{isFine, isGood, every, goodKeep, inRange, goodSerial, goodStart, goodStores, goodHeld, wellFormed}
-use Rattle.past.specs.Query.{isServed, isSession, passes, asksOf, queryAdmitted, mergedLast, refusedWith, queryAt, queryOf, queryOut}
+use Rattle.past.specs.Query.{isServed, isSession, passes, askAdmitted, queryAdmitted, mergedLast, refusedWith, queryAt, queryOf, queryOut}
 use Rattle.history.specs.Place.{IsFine, Stored, lastMerged}
 use Rattle.past.proofs.Served.{served-rule, rule-within}
 
@@ -55,14 +55,14 @@ pub ruleset testing = (session-is, served-start, served-held)
 -- ---- 5, then 6
 
 module _ (h : History) (session : Session) (asked : Serial) (u : Bool) (f : u ≡ isSession h session) where
-  pub ask-session : not u ≡ true → No OtherSession ≡ asksOf h session asked
+  pub ask-session : not u ≡ true → No OtherSession ≡ askAdmitted h session asked
   ask-session p = rw (← f, not-true u p)
 
   module _ (p : not u ≡ false) (d : ℕ) (i : d ≡ distanceOf (h .newest) asked) (v : Bool) (g : v ≡ isServed (h .start) (h .n) asked d) where
-    pub ask-serial : not v ≡ true → No NotServed ≡ asksOf h session asked
+    pub ask-serial : not v ≡ true → No NotServed ≡ askAdmitted h session asked
     ask-serial o = rw (← f, not-false u p, ← i, ← g, not-true v o)
 
-    pub ask-served : not v ≡ false → Yes ≡ asksOf h session asked
+    pub ask-served : not v ≡ false → Yes ≡ askAdmitted h session asked
     ask-served o = rw (← f, not-false u p, ← i, ← g, not-false v o)
 
 pub ruleset asking = (ask-session, ask-serial, ask-served)
@@ -73,7 +73,7 @@ module _ (h : History) (session : Session) (asked : Serial) (snapshots deltas : 
   pub admit-formed : not t ≡ true → No IllFormed ≡ queryAdmitted h session asked snapshots deltas
   admit-formed q = rw (← e, not-true t q)
 
-  pub admit-asked : not t ≡ false → (x : Admitted) → x ≡ asksOf h session asked → x ≡ queryAdmitted h session asked snapshots deltas
+  pub admit-asked : not t ≡ false → (x : Admitted) → x ≡ askAdmitted h session asked → x ≡ queryAdmitted h session asked snapshots deltas
   admit-asked q x i = i ∙ rw (← e, not-false t q)
 
 pub ruleset admitting = (admit-formed, admit-asked)

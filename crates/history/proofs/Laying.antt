@@ -14,7 +14,7 @@ use Rattle.item.specs.Write.{writes}
 use Rattle.walk.specs.Walk.{Runs, mergedAs}
 use Rattle.delta.specs.Answer.{differenceOf}
 use Rattle.delta.proofs.Answering.{runs-of, difference-is}
-use Rattle.past.specs.Store.{storeAfter}
+use Rattle.payload.specs.Written.{writtenOver}
 use Rattle.history.specs.Push.{Pushes, laid}
 
 -- ---- bytes moved down
@@ -112,7 +112,7 @@ pub ruleset pushing = (push-runs, push-room, push-laid)
 
 -- ---- the current snapshot
 
-pub held-is : (new s q : Bytes) → length new ≤ length s → q ≡ sets s 0 (take (length new - 0) (drop 0 new)) → q ≡ storeAfter new s
+pub held-is : (new s q : Bytes) → length new ≤ length s → q ≡ sets s 0 (take (length new - 0) (drop 0 new)) → q ≡ writtenOver new s
 held-is new s q h e =
     let z : length new - 0 ≡ length new = omega arith in
     let l : 0 + length new ≤ length s = omega arith in

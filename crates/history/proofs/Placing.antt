@@ -19,6 +19,7 @@ use Rattle.field.specs.Cells.{cells, cellsF, cellsAt}
 use Rattle.field.proofs.Walk.{good-start}
 use Rattle.payload.specs.Content.{Bytes, entryOf}
 use Rattle.payload.specs.Payload.{entries, changes}
+use Rattle.payload.specs.Limit.{limit}
 use Rattle.payload.proofs.Faithful.{faithful}
 use Rattle.walk.specs.declared.walk.Output.{Output}
 use Rattle.item.specs.Write.{writes}
@@ -56,7 +57,7 @@ pub record Placing (lengths : List ℕ) (n : ℕ) (at ends : List ℕ) (sum i : 
   pub long : length at ≡ 64
   pub long-ends : length ends ≡ 64
   pub sum-is : sum ≡ total (take i lengths)
-  pub low : sum ≤ 33_554_432
+  pub low : sum ≤ limit Delta
   pub starts : (j : ℕ) → j < i → getD at j 0 ≡ total (take j lengths)
   pub stops : (j : ℕ) → j < i → getD ends j 0 ≡ total (take j lengths) + getD lengths j 0
 
@@ -81,7 +82,7 @@ module _ (lengths : List ℕ) (n : ℕ) (at ends : List ℕ) (sum i : ℕ) (p : 
         let f : i + 1 ≡ suc i = omega arith in
         rw (f, e, p .sum-is) (total-next lengths i (omega (arith, p .known)))
 
-    place-fits : sum + k ≤ 33_554_432
+    place-fits : sum + k ≤ limit Delta
     place-fits = omega (arith, sum-here, total-le lengths (i + 1) n (omega arith), p .summed .small)
 
     pub place-again : Placing lengths n (set at i sum) (set ends i (sum + k)) (sum + k) (i + 1)
@@ -218,7 +219,7 @@ module _ (s : Bytes) (lengths : List ℕ) (n : ℕ) (r : Places) (p : Placed len
           (all-map changes IsFine (Sorted bytes) (λ x f. faithful Delta .map-of x f .sorted) (lastN d (cuts (take n lengths) s))
           (all-drop IsFine (length (cuts (take n lengths) s) - d) (cuts (take n lengths) s) (t .good)))
 
-      few-left : itemsLeft s (r .at) (r .ends) (n - d) n ≤ 33_554_432
+      few-left : itemsLeft s (r .at) (r .ends) (n - d) n ≤ limit Delta
       few-left =
           let f = items-few (take (n - (n - d)) (drop (n - d) lengths)) (drop (total (take (n - d) lengths)) s) in
           rw (runs-are (n - d) (n - (n - d)) (omega arith)) (omega (arith, length-drop (total (take (n - d) lengths)) s, t .small))

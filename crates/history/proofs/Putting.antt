@@ -8,10 +8,11 @@ use lib.Seq.{sets, length-sets}
 use Rattle.field.specs.declared.tag.Form.the-variants.{Delta}
 use Rattle.field.specs.declared.key.Key.{Key}
 use Rattle.payload.specs.Content.{Bytes}
+use Rattle.payload.specs.Limit.{limit}
 use Rattle.item.specs.declared.place.Act.{Act}
 use Rattle.item.specs.declared.sink.Counts.{Counts}
 use Rattle.item.specs.Place.{changeIn, itemIn, ActFits, KeyIn}
-use Rattle.item.specs.Write.{fieldAs, writes, plusItem, plusAll, zero, Room}
+use Rattle.item.specs.Write.{fieldAs, writes, plusItem, plusAll, zero, Countable}
 use Rattle.walk.proofs.Walking.{Left-over, none-counts, none-bytes, left-one, one-small, announces-one, withdraws-one, whole-long, whole-long-bytes, whole-fits, whole-bytes}
 use Rattle.cursors.specs.declared.next.Step.{Step}
 use Rattle.cursors.specs.declared.next.Step.the-variants.{End, Item}
@@ -26,9 +27,9 @@ pub record Putting (s : Bytes) (at₀ ends f₀ : List ℕ) (from n : ℕ) (o₀
   pub walks : Walks s at ends from n
   pub same-long : length at ≡ length at₀
   pub long : length o ≡ length o₀
-  pub len : c .len + 40_000 * itemsLeft s at ends from n ≤ 40_000 * 33_554_432
-  pub announced : c .announced + itemsLeft s at ends from n ≤ 33_554_432
-  pub withdrawn : c .withdrawn + itemsLeft s at ends from n ≤ 33_554_432
+  pub len : c .len + 40_000 * itemsLeft s at ends from n ≤ 40_000 * limit Delta
+  pub announced : c .announced + itemsLeft s at ends from n ≤ limit Delta
+  pub withdrawn : c .withdrawn + itemsLeft s at ends from n ≤ limit Delta
   pub left : Left-over Delta c o (leftOf s at ends from n) zero o₀ (leftOf s at₀ ends from n)
 
 pub put-within : (s : Bytes) (at ends : List ℕ) (from n : ℕ) → Bounded s at ends from n → Within s at ends n
@@ -54,7 +55,7 @@ module _ (s : Bytes) (at₀ ends f₀ : List ℕ) (from n : ℕ) (o₀ : Bytes) 
   pub put-walks : Walks s at ends from n
   put-walks = i .walks
 
-  pub put-room : Room c
+  pub put-room : Countable c
   put-room = record { len = omega (arith, i .len); announced = omega (arith, i .announced); withdrawn = omega (arith, i .withdrawn) }
 
   module _ (at′ : List ℕ) (r : Step) (x : NextIs s at at′ ends from n r) where

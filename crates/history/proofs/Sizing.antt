@@ -65,11 +65,11 @@ table-size k (withdraw p) (update q n) = omega (arith, update-size q n, replace-
 
 cons-size : (x : Item Bytes (Change Bytes)) (r : D) →
     length (writes Delta (x ∷ r)) ≡ 3 + (length (drop 1 (x .key)) + length (valuesFor (x .val))) + length (writes Delta r)
-unfolding run.encode run.field
+unfolding run.cellBytes run.field
 cons-size x r = simp length-append (omega arith)
 
 nil-size : length (writes Delta []) ≡ 0
-unfolding run.encode
+unfolding run.cellBytes
 nil-size = refl
 
 emit-size : (k : Bytes) (o : Option (Change Bytes)) (r : D) → length (writes Delta (emit k o r)) ≡ emitted k o + length (writes Delta r)

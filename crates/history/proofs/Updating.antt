@@ -25,7 +25,8 @@ use Rattle.past.specs.declared.state.History.{History}
 use Rattle.history.specs.declared.push.Kept.{Kept}
 use Rattle.past.specs.declared.update.Update.the-variants as updates
 use Rattle.past.specs.declared.update.Updated.{Updated}
-use Rattle.past.specs.Store.{total, heldSnapshot, storeAfter}
+use Rattle.past.specs.Store.{total, heldSnapshot}
+use Rattle.payload.specs.Written.{writtenOver}
 use Rattle.past.specs.WellFormed.{wellFormed}
 use Rattle.past.specs.Update.{Step, refuse, first, unchanged, add, deltasWith, firstStep, admittedStep, stepFor, updateAt, updateOf, snapshotsAt, updateSnapshots, deltasAt, updateDeltas}
 use Rattle.history.specs.Push.{between, dropsOf, keptOf, grownOf, laid, Ranged, Pushes, Grows}
@@ -63,7 +64,7 @@ module _ (new s : Bytes) where
   unfolding firstStore
   first-left l = rw (lt-leb (length new) (length s) l)
 
-  pub first-held : (q : Bytes) → length new ≤ length s → q ≡ storeAfter new s → q ≡ firstStore new s
+  pub first-held : (q : Bytes) → length new ≤ length s → q ≡ writtenOver new s → q ≡ firstStore new s
   unfolding firstStore
   first-held q l e = rw (le-leb (length new) (length s) l) e
 
@@ -148,7 +149,7 @@ module _ (h : History) (new s d : Bytes) (counts : Counts) (kept : Kept) (x : Ex
       let n : length c ≡ 0 → ⊥ = λ z. x .some (len-is ∙ z) in
       rw (r .formed, r .admitted, r .active, ne-eqb (length c) 0 n, le-leb (length new) (length s) (x .fits), le-leb (total (map length (deltasWith h d c))) (length d) t)
 
-  extend-snapshots : (q : Bytes) → q ≡ storeAfter new s → q ≡ updateSnapshots h new s d
+  extend-snapshots : (q : Bytes) → q ≡ writtenOver new s → q ≡ updateSnapshots h new s d
   extend-snapshots q e = e ∙ step-snapshots h new s d (add c) step
 
   extend-answer : (g : History) → length (h .deltas) ≡ 64 → g ≡ grownOf h (kept .first) (length new) (counts .len) →
@@ -178,7 +179,7 @@ module _ (h : History) (new s d : Bytes) (counts : Counts) (kept : Kept) (x : Ex
     extend-deltas : (q : Bytes) → q ≡ laid (kept .from) (kept .len) (differenceOf (take (held - 0) (drop 0 s)) new) d → q ≡ updateDeltas h new s d
     extend-deltas q f = f ∙ rw (old-is, kept-from, kept-len) (with-store h s d formed c) ∙ step-deltas h new s d (add c) step
 
-    pub extend-stores : (q p : Bytes) → p ≡ laid (kept .from) (kept .len) (differenceOf (take (held - 0) (drop 0 s)) new) d → q ≡ storeAfter new s → Stores h new s d q p
+    pub extend-stores : (q p : Bytes) → p ≡ laid (kept .from) (kept .len) (differenceOf (take (held - 0) (drop 0 s)) new) d → q ≡ writtenOver new s → Stores h new s d q p
     extend-stores q p f g = record { snapshots = extend-snapshots q g; deltas = extend-deltas p f }
 
 pub ruleset laying = (extend-end, extend-pushes, extend-stores)

@@ -12,6 +12,7 @@ use Rattle.field.specs.declared.verdict.Verdict.the-variants.{Fine}
 use Rattle.field.specs.Verdict.{verdict}
 use Rattle.payload.specs.Content.{Bytes}
 use Rattle.payload.specs.Payload.{changes}
+use Rattle.payload.specs.Limit.{limit}
 use Rattle.history.specs.declared.place.Places.{Places}
 use Rattle.past.specs.Store.{total, cuts}
 use Rattle.cursors.specs.Cursor.{D}
@@ -19,7 +20,7 @@ use Rattle.cursors.specs.Cursor.{D}
 -- n lengths that a delta store can have room for
 pub record Summed (lengths : List ℕ) (n : ℕ) : Type 0 where
   pub few : n ≤ 64
-  pub small : total (take n lengths) ≤ 33_554_432
+  pub small : total (take n lengths) ≤ limit Delta
 
 -- the first n deltas lie one behind the other
 pub record Placed (lengths : List ℕ) (n : ℕ) (r : Places) : Type 0 where
@@ -36,7 +37,7 @@ IsFine d = verdict Delta d ≡ Fine
 pub record Stored (s : Bytes) (lengths : List ℕ) (n : ℕ) : Type 0 where
   pub few : n ≤ 64
   pub fits : total (take n lengths) ≤ length s
-  pub small : length s ≤ 33_554_432
+  pub small : length s ≤ limit Delta
   pub good : All IsFine (cuts (take n lengths) s)
 
 -- the last d of them merged, earliest first

@@ -2,17 +2,17 @@
 use Prim.Native.Nat.{ℕ, suc, _+_, _-_, _≤_}
 use mathlib.Core.Path.{_≡_}
 use mathlib.Core.List.{List, [], _∷_, _++_}
-use mathlib.Core.Bool.{true, cond}
+use mathlib.Core.Bool.{cond}
 use lib.Dec.{eqb}
 use lib.ListN.{length, take, drop, replicate}
 use Rattle.serial.specs.Serial.{nextOf}
 use Rattle.field.specs.declared.tag.Form.the-variants.{Snapshot}
 use Rattle.payload.specs.Content.{Bytes}
-use Rattle.delta.specs.Admission.{Inputs}
+use Rattle.delta.specs.Inputs.{Inputs}
 use Rattle.delta.specs.Answer.{differenceOf}
 use Rattle.past.specs.declared.state.History.{History}
 use Rattle.history.specs.declared.push.Kept.{Kept}
-use Rattle.past.specs.Store.{total}
+use Rattle.past.specs.Store.{total, stateWith}
 
 -- the lengths from `from` up to `to`
 abbrev pub between : List ℕ → ℕ → ℕ → List ℕ
@@ -36,16 +36,7 @@ lengthsWith lens first n len = (between lens first n ++ (len ∷ [])) ++ replica
 
 -- the state once a snapshot and a delta of these lengths are held
 unfoldable pub grownOf : History → ℕ → ℕ → ℕ → History
-grownOf h first snapshot delta = record {
-  session = h .session;
-  keep = h .keep;
-  active = true;
-  newest = nextOf (h .newest);
-  start = h .start;
-  n = h .n - first + 1;
-  snapshot = snapshot;
-  deltas = lengthsWith (h .deltas) first (h .n) delta;
-}
+grownOf h first snapshot delta = stateWith h (nextOf (h .newest)) (h .n - first + 1) snapshot (lengthsWith (h .deltas) first (h .n) delta)
 
 -- r is that state; its lengths came of 64
 pub record Grows (h : History) (first snapshot delta : ℕ) (r : History) : Type 0 where

@@ -10,7 +10,8 @@ use Rattle.delta.specs.declared.admit.Admitted.{Admitted}
 use Rattle.delta.specs.declared.admit.Admitted.the-variants.{Yes, No}
 use Rattle.delta.specs.declared.refusal.Refusal.the-variants.{IllFormed}
 use Rattle.item.specs.declared.sink.Counts.{Counts}
-use Rattle.delta.specs.Admission.{Inputs, admitOneOf}
+use Rattle.delta.specs.Admission.{admitOneOf}
+use Rattle.delta.specs.Inputs.{Inputs}
 use Rattle.delta.specs.Answer.{differenceOf, countsOf}
 use Rattle.past.specs.declared.state.History.{History}
 use Rattle.history.specs.declared.push.Kept.{Kept}

@@ -20,7 +20,7 @@ ghost use Rattle.delta.specs.declared.admit.Admitted.the-variants.{Yes};
 ghost use Rattle.delta.specs.Answer.{outAfter};
 ghost use Rattle.past.specs.Store.{heldDeltas};
 ghost use Rattle.history.specs.Place.{Stored};
-ghost use Rattle.past.specs.Query.{isServed, isSession, asksOf, queryAdmitted, mergedLast, refusedWith, queryAt, queryOf, queryOut};
+ghost use Rattle.past.specs.Query.{isServed, isSession, askAdmitted, queryAdmitted, mergedLast, refusedWith, queryAt, queryOf, queryOut};
 
 // A refused query: other numbers 0.
 fn refused(refusal: Refusal) -> Queried
@@ -53,7 +53,7 @@ pub fn is_served(start: Serial, n: u32, asked: Serial, d: u32) -> bool
 
 // Refusals 5 and 6.
 pub fn asks(history: History, session: Session, asked: Serial) -> Admitted
-    ensures { λ r. ⌜ r ≡ asksOf history session asked ⌝ }
+    ensures { λ r. ⌜ r ≡ askAdmitted history session asked ⌝ }
 {
     if !is_session(history, session) {
         return Admitted::No(Refusal::OtherSession);

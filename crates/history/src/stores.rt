@@ -9,7 +9,7 @@ ghost use mathlib.Core.List.{_++_};
 ghost use Prim.Native.Nat.{_+_, _≤_};
 ghost use lib.ListN.{length, take, drop};
 ghost use Rattle.delta.specs.Answer.{differenceOf};
-ghost use Rattle.past.specs.Store.{storeAfter};
+ghost use Rattle.payload.specs.Written.{writtenOver};
 ghost use Rattle.history.specs.Push.{Pushes, laid};
 
 // The len bytes at from go to the start; the bytes past them stay.
@@ -46,7 +46,7 @@ pub(crate) fn push_delta(old: &[u8], new: &[u8], from: usize, kept: usize, delta
 // The new snapshot at the start of its store.
 pub(crate) fn hold(new: &[u8], snapshots: &mut [u8])
     requires { ⌜ length (now new) ≤ length (now snapshots) ⌝ }
-    ensures { λ r. ⌜ now (snapshots .exit) ≡ storeAfter (now (new .entry)) (now (snapshots .entry)) ⌝ }
+    ensures { λ r. ⌜ now (snapshots .exit) ≡ writtenOver (now (new .entry)) (now (snapshots .entry)) ⌝ }
 {
     let whole = Part {
         from: 0,

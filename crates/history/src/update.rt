@@ -20,6 +20,8 @@ use walk::walk::measure;
 ghost use mathlib.Core.Path.{_≡_};
 ghost use Prim.Native.Nat.{_≤_};
 ghost use lib.ListN.{length};
+ghost use Rattle.field.specs.declared.tag.Form.the-variants.{Snapshot};
+ghost use Rattle.payload.specs.Limit.{limit};
 ghost use Rattle.delta.specs.Answer.{differenceOf, countsOf};
 ghost use Rattle.past.specs.Store.{heldSnapshot};
 ghost use Rattle.past.specs.Update.{updateOf, updateSnapshots, updateDeltas};
@@ -37,7 +39,7 @@ fn admitted(history: History, new: &[u8], snapshots: &[u8], deltas: &[u8]) -> Ad
 
 // The first snapshot becomes current.
 fn first(history: History, new: &[u8], snapshots: &mut [u8]) -> Updated
-    requires { ⌜ length (now new) ≤ 16777216 ⌝ }
+    requires { ⌜ length (now new) ≤ limit Snapshot ⌝ }
     ensures { λ r. ⌜ (r ≡ firstOf history (now (new .entry)) (now (snapshots .entry))) × (now (snapshots .exit) ≡ firstStore (now (new .entry)) (now (snapshots .entry))) ⌝ }
 {
     if snapshots.len() < new.len() {

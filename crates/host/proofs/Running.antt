@@ -16,7 +16,7 @@ use Rattle.past.specs.Create.{createOf}
 use Rattle.past.specs.Update.{Step, refuse, first, unchanged, add, stepFor, updateAt, updateOf, updateSnapshots, updateDeltas}
 use Rattle.past.specs.Query.{queryOf, queryOut}
 use Rattle.past.specs.Full.{fullOf, notifyOf, readyOf}
-use Rattle.past.specs.Run.{World, Call, update, query, full, notify, ready, replyOf, stepOf, Run, startOf, runOf}
+use Rattle.past.specs.Run.{World, Call, update, query, full, notify, ready, replyOf, stepOf, Reached, startOf, runOf}
 use Rattle.past.specs.Promise.{Promise}
 use Rattle.past.proofs.Runs as past
 use Rattle.host.specs.declared.state.State.{State}
@@ -88,11 +88,11 @@ module _ (w : World) where
   call-kept ready = refl
 
 -- so does a run
-run-kept : (r : Run) (calls : List Call) → keptRun (keptOf (r .world)) calls ≡ keptOf (runOf r calls .world)
+run-kept : (r : Reached) (calls : List Call) → keptRun (keptOf (r .world)) calls ≡ keptOf (runOf r calls .world)
 run-kept r [] = refl
 run-kept r (c ∷ calls) = ap (λ (k : Kept). keptRun k calls) (call-kept (r .world) c) ∙ run-kept _ calls
 
-hosted-at : (session keep : ℕ) (start : Serial) (k : Kept) (r : Run) → Promise session keep start r → k ≡ keptOf (r .world) → Hosted session keep start k r
+hosted-at : (session keep : ℕ) (start : Serial) (k : Kept) (r : Reached) → Promise session keep start r → k ≡ keptOf (r .world) → Hosted session keep start k r
 hosted-at session keep start k r p e = record {
   promise = p;
   history = ap (λ (x : Kept). historyOf (x .state)) e ∙ history-back (r .world .history);

@@ -12,7 +12,7 @@ use Rattle.past.specs.Create.{createOf}
 use Rattle.past.specs.Update.{updateOf, updateSnapshots, updateDeltas}
 use Rattle.past.specs.Query.{queryOf, queryOut}
 use Rattle.past.specs.Full.{fullOf, notifyOf, readyOf}
-use Rattle.past.specs.Run.{World, Call, update, query, full, notify, ready, Reply, updated, queried, fully, noticed, isReady, replyOf, stepOf, Run, startOf, runOf}
+use Rattle.past.specs.Run.{World, Call, update, query, full, notify, ready, Reply, updated, queried, fully, noticed, isReady, replyOf, stepOf, Reached, startOf, runOf}
 use Rattle.past.specs.Promise.{OfBytes, Promise}
 use Rattle.host.specs.declared.answer.Answer.{Answer}
 use Rattle.host.specs.declared.state.State.{State}
@@ -77,7 +77,7 @@ flatReply w (noticed n) = notice n
 flatReply w (isReady b) = mark b
 
 -- a run of exported calls beside the run of the same calls on a history
-pub record Hosted (session keep : ℕ) (start : Serial) (k : Kept) (r : Run) : Type 0 where
+pub record Hosted (session keep : ℕ) (start : Serial) (k : Kept) (r : Reached) : Type 0 where
   -- all that is promised of the history's run
   pub promise : Promise session keep start r
   -- what is kept is that history, with its stores

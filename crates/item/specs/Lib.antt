@@ -1,3 +1,4 @@
+-- what the contracts of inner functions say
 pub mod Place
 pub mod Front
 pub mod Reading

@@ -1,6 +1,6 @@
 -- What is written of a list of changes, and its counts.
 use Prim.Native.Nat.{ℕ, _+_, _*_, _^_, _<_}
-use mathlib.Core.List.{_++_, map}
+use mathlib.Core.List.{[], _++_, map}
 use lib.ListN.{length, getD, drop}
 use Rattle.order.specs.Map.{Item}
 use Rattle.change.specs.Change.{Change}
@@ -8,16 +8,17 @@ use Rattle.change.specs.Difference as change
 use Rattle.field.specs.declared.tag.Form.{Form}
 use Rattle.field.specs.declared.tag.Form.the-variants.{Snapshot, Delta}
 use Rattle.field.specs.Cells as run
-use Rattle.payload.specs.Content.{Bytes, digit, valuesFor}
+use Rattle.payload.specs.Content.{Bytes, tagFor, valuesFor}
 use Rattle.payload.specs.Count.{announces, withdraws, sumOf}
 use Rattle.item.specs.declared.place.Act.{Act}
 use Rattle.item.specs.declared.place.Act.the-variants as act
 use Rattle.item.specs.declared.sink.Counts.{Counts}
+use Rattle.item.specs.Place.{changeIn}
 
 -- the tag of a change of a kind; in a snapshot the kind alone
 abbrev pub tagAs : Form → ℕ → Change Bytes → ℕ
 tagAs Snapshot kind c = kind
-tagAs Delta kind c = kind * 16 + digit c
+tagAs Delta kind c = tagFor Delta kind c
 
 abbrev pub cellAs : Form → Item Bytes (Change Bytes) → run.Cell
 cellAs form x = record { tag = tagAs form (getD (x .key) 0 0) (x .val); body = drop 1 (x .key) ++ valuesFor (x .val) }
@@ -28,7 +29,7 @@ fieldAs form x = run.field (cellAs form x .tag) (cellAs form x .body)
 
 -- all of them, one behind the other
 abbrev pub writes : Form → change.Delta Bytes Bytes → Bytes
-writes form D = run.encode (map (cellAs form) D)
+writes form D = run.cellBytes (map (cellAs form) D)
 
 -- the counts with one item more, and with many
 abbrev pub plusItem : Form → Counts → Item Bytes (Change Bytes) → Counts
@@ -45,15 +46,9 @@ plusAll form c D = record {
   withdrawn = c .withdrawn + sumOf withdraws D;
 }
 
--- the same by the places of the change
-abbrev pub digitPlace : Act → ℕ
-digitPlace (act.Announce n) = 1
-digitPlace (act.Withdraw p) = 2
-digitPlace (act.Update p n) = 3
-
+-- the same by the places of the change, in whatever bytes they lie
 abbrev pub tagPlace : Form → ℕ → Act → ℕ
-tagPlace Snapshot kind a = kind
-tagPlace Delta kind a = kind * 16 + digitPlace a
+tagPlace form kind a = tagAs form kind (changeIn [] [] a)
 
 abbrev pub plusPlace : Counts → Act → ℕ → Counts
 plusPlace c (act.Withdraw p) size = record { len = c .len + size; announced = c .announced; withdrawn = c .withdrawn + 1 }
@@ -64,7 +59,7 @@ abbrev pub zero : Counts
 zero = record { len = 0; announced = 0; withdrawn = 0 }
 
 -- one more item can be counted
-pub record Room (c : Counts) : Type 0 where
+pub record Countable (c : Counts) : Type 0 where
   pub len : c .len < 2 ^ 62
   pub announced : c .announced < 2 ^ 62
   pub withdrawn : c .withdrawn < 2 ^ 62

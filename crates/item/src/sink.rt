@@ -11,7 +11,7 @@ ghost use lib.ListN.{set};
 ghost use lib.Seq.{sets};
 ghost use Rattle.payload.specs.Content.{valuesFor};
 ghost use Rattle.item.specs.Place.{Lies, PartSized, KeyIn, ActFits, ActSized, partIn, partSize, keySize, valuesSize, changeIn, itemIn};
-ghost use Rattle.item.specs.Write.{Room, tagPlace, plusPlace, plusItem, fieldAs};
+ghost use Rattle.item.specs.Write.{Countable, tagPlace, plusPlace, plusItem, fieldAs};
 
 // How long an answer is, and how many items it announces and withdraws.
 pub struct Counts {
@@ -92,7 +92,7 @@ fn tag_as(form: Form, kind: u8, act: Act) -> u8
 
 // The counts with one item more, of a field of this size.
 fn plus(counts: Counts, act: Act, size: usize) -> Counts
-    requires { ⌜ Room counts × (size < 65539) ⌝ }
+    requires { ⌜ Countable counts × (size < 65539) ⌝ }
     ensures { λ r. ⌜ r ≡ plusPlace counts act size ⌝ }
 {
     match act {
@@ -150,7 +150,7 @@ pub fn put_item(
     out: &mut [u8],
     counts: Counts,
 ) -> Counts
-    requires { ⌜ KeyIn (now a) key × (ActFits (now a) (now b) act × Room counts) ⌝ }
+    requires { ⌜ KeyIn (now a) key × (ActFits (now a) (now b) act × Countable counts) ⌝ }
     ensures { λ r. ⌜ (r ≡ plusItem form counts (itemIn (now (a .entry)) (now (b .entry)) key act)) × (now (out .exit) ≡ sets (now (out .entry)) (counts .len) (fieldAs form (itemIn (now (a .entry)) (now (b .entry)) key act))) ⌝ }
 {
     let size = put_field(form, a, key, act, b, out, counts.len);

@@ -40,30 +40,30 @@ origin = 1 ∷ 0 ∷ 23 ∷ 4 ∷ 192 ∷ 0 ∷ 2 ∷ 0 ∷ (replicate 12 0 ++ (
 -- announced where it is not held: accepted with room for 26 bytes, and not with less
 taken : judgeOf Rfc8210 [] (opening ++ (prefix 1 ++ ending)) 26
     ≡ Accepted (record { 0 = 2 }) (record { 0 = 7 }) (record { refresh = 3600; retry = 600; expire = 7200 }) (record { len = 26; announced = 1; withdrawn = 0 })
-unfolding verdict verdictF judge front goodBody tagOf kindOf keyOf goodOrigin goodPrefix clean sensible cells cellsF field run.encode entries encode walk partOf messageIn read.front hearF hear take judgeAdmitted resultOf judgeOf
+unfolding verdict verdictF judge front goodBody tagOf kindOf keyOf goodOrigin goodPrefix clean sensible cells cellsF field run.cellBytes entries encode walk partOf messageIn read.front hearF hear take judgeAdmitted resultOf judgeOf
 taken = refl
 
 no-room : judgeOf Rfc8210 [] (opening ++ (prefix 1 ++ ending)) 25 ≡ Refused NoRoom
-unfolding verdict verdictF judge front goodBody tagOf kindOf keyOf goodOrigin goodPrefix clean sensible cells cellsF field run.encode entries encode walk partOf messageIn read.front hearF hear take judgeAdmitted resultOf judgeOf
+unfolding verdict verdictF judge front goodBody tagOf kindOf keyOf goodOrigin goodPrefix clean sensible cells cellsF field run.cellBytes entries encode walk partOf messageIn read.front hearF hear take judgeAdmitted resultOf judgeOf
 no-room = refl
 
 written : judgeOut Rfc8210 [] (opening ++ (prefix 1 ++ ending)) (replicate 26 9 ++ (5 ∷ [])) ≡ origin ++ (5 ∷ [])
-unfolding verdict verdictF judge front goodBody tagOf kindOf keyOf goodOrigin goodPrefix clean sensible cells cellsF field run.encode entries encode walk partOf messageIn read.front hearF hear take judgeAdmitted resultOf judgeOut
+unfolding verdict verdictF judge front goodBody tagOf kindOf keyOf goodOrigin goodPrefix clean sensible cells cellsF field run.cellBytes entries encode walk partOf messageIn read.front hearF hear take judgeAdmitted resultOf judgeOut
 written = refl
 
 -- announced twice, withdrawn where it is not held, both before the answer breaks off; no answer; a bad snapshot of ours before all
 present : judgeOf Rfc8210 [] (opening ++ (prefix 1 ++ (prefix 1 ++ (1 ∷ [])))) 100 ≡ Refused (Present 28)
-unfolding verdict verdictF judge front goodBody tagOf kindOf keyOf goodOrigin goodPrefix clean sensible cells cellsF field run.encode entries encode walk partOf messageIn read.front hearF hear take judgeAdmitted resultOf judgeOf
+unfolding verdict verdictF judge front goodBody tagOf kindOf keyOf goodOrigin goodPrefix clean sensible cells cellsF field run.cellBytes entries encode walk partOf messageIn read.front hearF hear take judgeAdmitted resultOf judgeOf
 present = refl
 
 absent : judgeOf Rfc8210 [] (opening ++ (prefix 0 ++ (1 ∷ []))) 100 ≡ Refused (Absent 8)
-unfolding verdict verdictF judge front goodBody tagOf kindOf keyOf goodOrigin goodPrefix clean sensible cells cellsF field run.encode entries encode walk partOf messageIn read.front hearF hear take judgeAdmitted resultOf judgeOf
+unfolding verdict verdictF judge front goodBody tagOf kindOf keyOf goodOrigin goodPrefix clean sensible cells cellsF field run.cellBytes entries encode walk partOf messageIn read.front hearF hear take judgeAdmitted resultOf judgeOf
 absent = refl
 
 broken : judgeOf Rfc8210 [] (opening ++ (prefix 1 ++ (1 ∷ []))) 100 ≡ Refused (Faulty 28)
-unfolding verdict verdictF judge front goodBody tagOf kindOf keyOf goodOrigin goodPrefix clean sensible cells cellsF field run.encode entries encode walk partOf messageIn read.front hearF hear take judgeAdmitted resultOf judgeOf
+unfolding verdict verdictF judge front goodBody tagOf kindOf keyOf goodOrigin goodPrefix clean sensible cells cellsF field run.cellBytes entries encode walk partOf messageIn read.front hearF hear take judgeAdmitted resultOf judgeOf
 broken = refl
 
 ours-first : judgeOf Rfc8210 (9 ∷ []) [] 100 ≡ Refused (Bad 1 0)
-unfolding verdict verdictF judge front goodBody tagOf kindOf keyOf goodOrigin goodPrefix clean sensible cells cellsF field run.encode entries encode walk partOf messageIn read.front hearF hear take judgeAdmitted resultOf judgeOf
+unfolding verdict verdictF judge front goodBody tagOf kindOf keyOf goodOrigin goodPrefix clean sensible cells cellsF field run.cellBytes entries encode walk partOf messageIn read.front hearF hear take judgeAdmitted resultOf judgeOf
 ours-first = refl

@@ -55,7 +55,7 @@ S = change.Snapshot Bytes Bytes
 -- ---- a snapshot's items and its bytes
 
 run-bytes : {k s : Bytes} → Run Snapshot k s → AllBytes s → encode Snapshot (items s) ≡ s
-unfolding encode run.encode
+unfolding encode run.cellBytes
 run-bytes done o = rw (entries-end Snapshot)
 run-bytes (more {s = s} tag b rest f g z l r) o =
     let w : s ≡ field tag b ++ rest = field-front s tag b rest o f in
@@ -64,7 +64,7 @@ run-bytes (more {s = s} tag b rest f g z l r) o =
     ∙ sym w
 
 pub encode-append : (a b : S) → encode Snapshot (a ++ b) ≡ encode Snapshot a ++ encode Snapshot b
-unfolding encode run.encode
+unfolding encode run.cellBytes
 encode-append [] b = refl
 encode-append (x ∷ a) b =
     ap (λ (l : Bytes). field (cellFor Snapshot x .tag) (cellFor Snapshot x .body) ++ l) (encode-append a b)

@@ -33,7 +33,7 @@ use Rattle.delta.specs.declared.refusal.Refusal.{Refusal}
 use Rattle.delta.specs.declared.refusal.Refusal.the-variants as refusal
 use Rattle.delta.specs.declared.admit.Admitted.{Admitted}
 use Rattle.delta.specs.declared.admit.Admitted.the-variants.{Yes, No}
-use Rattle.delta.specs.Admission.{andThen, limitOf, judgedOf, refusalOf, admitOneOf}
+use Rattle.delta.specs.Admission.{andThen, limitAdmitted, judgedOf, verdictAdmitted, admitOneOf}
 use Rattle.delta.specs.Answer.{outAfter}
 use Rattle.delta.proofs.Answering.{ready-start}
 use Rattle.message.specs.declared.version.Version.{Version}
@@ -156,7 +156,7 @@ pub ruleset putting-all = (all-charted, all-enough, all-over, all-left, all-room
 admitted-fine : (s : Bytes) → admitOneOf Snapshot s ≡ Yes → verdict Snapshot s ≡ verdict.Fine
 admitted-fine s = go (leb (length s) (limit Snapshot)) (verdict Snapshot s)
   where
-    go : (b : Bool) (v : Verdict) → andThen (cond b Yes (No (refusal.TooLong 1))) (refusalOf 1 v) ≡ Yes → v ≡ verdict.Fine
+    go : (b : Bool) (v : Verdict) → andThen (cond b Yes (No (refusal.TooLong 1))) (verdictAdmitted 1 v) ≡ Yes → v ≡ verdict.Fine
     go false v e = absurd (let z : _≡_ {A = ℕ} 0 1 = cc in omega arith)
     go true verdict.Fine e = refl
     go true (verdict.Bad at) e = absurd (let z : _≡_ {A = ℕ} 0 1 = cc in omega arith)

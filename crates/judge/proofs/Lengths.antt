@@ -37,7 +37,7 @@ width : Item Bytes Bytes → ℕ
 width x = 3 + length (drop 1 (x .key) ++ x .val)
 
 cons-length : (x : Item Bytes Bytes) (A : change.Snapshot Bytes Bytes) → length (encode Snapshot (x ∷ A)) ≡ width x + length (encode Snapshot A)
-unfolding encode run.encode run.field width
+unfolding encode run.cellBytes run.field width
 cons-length x A = omega (arith, length-append (drop 1 (x .key) ++ x .val) (encode Snapshot A))
 
 bare-width : (k : Bytes) → width (record { key = k; val = [] }) ≡ fieldLength k

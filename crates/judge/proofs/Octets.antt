@@ -72,7 +72,7 @@ abbrev pub ItemBytes : Item Bytes Bytes → Type 0
 ItemBytes x = FieldBytes (x .key) (x .val)
 
 pub encode-bytes : (B : change.Snapshot Bytes Bytes) → All ItemBytes B → AllBytes (encode Snapshot B)
-unfolding encode run.encode
+unfolding encode run.cellBytes
 encode-bytes [] h = λ i. omega arith
 encode-bytes (x ∷ B) h = append-bytes (run.field (getD (x .key) 0 0) (drop 1 (x .key) ++ x .val)) (encode Snapshot B) (h .0) (encode-bytes B (h .1))
 

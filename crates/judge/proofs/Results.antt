@@ -175,7 +175,7 @@ onward-full v C t =
 -- ---- the promise
 
 empty-good : GoodSnapshot []
-unfolding encode run.encode
+unfolding encode run.cellBytes
 empty-good = record { octets = λ i. omega arith; fine = faithful Snapshot .good-bytes [] (record { sorted = tt; valid = tt }) }
 
 pub promise : (v : Version) → Promise v

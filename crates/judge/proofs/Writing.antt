@@ -162,7 +162,7 @@ apply-here (x ∷ y ∷ H) A k b c d p q h = absurd (go c q)
     go false q = omega (arith, q)
 
 emit-field : (k : Bytes) (b : Bool) (A : S) → encode Snapshot (emit k (applyAt none (some (says b))) A) ≡ cond b (recordField k) [] ++ encode Snapshot A
-unfolding encode run.encode
+unfolding encode run.cellBytes
 emit-field k true A = ap (λ (l : Bytes). field (getD k 0 0) l ++ encode Snapshot A) (append-nil (drop 1 k))
 emit-field k false A = refl
 

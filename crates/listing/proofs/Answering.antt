@@ -18,6 +18,7 @@ use Rattle.field.specs.declared.verdict.Verdict.the-variants.{Fine}
 use Rattle.field.specs.Head.{front}
 use Rattle.field.specs.Verdict.{judge, verdictF, verdict}
 use Rattle.payload.specs.Content.{Bytes}
+use Rattle.payload.specs.Written.{writtenOver}
 use Rattle.payload.specs.Payload.{changes}
 use Rattle.payload.proofs.Faithful.{faithful, entries-end}
 use Rattle.delta.specs.declared.refusal.Refusal.{Refusal}
@@ -28,7 +29,8 @@ use Rattle.item.specs.declared.sink.Counts.{Counts}
 use Rattle.item.specs.declared.reading.Reading.the-variants.{Changes}
 use Rattle.delta.specs.declared.construct.Constructed.{Constructed}
 use Rattle.delta.specs.declared.construct.Constructed.the-variants as constructed
-use Rattle.delta.specs.Admission.{Inputs, andThen, judgedOf, admitOneOf, admitOf}
+use Rattle.delta.specs.Admission.{andThen, judgedOf, admitOneOf, admitOf}
+use Rattle.delta.specs.Inputs.{Inputs}
 use Rattle.item.specs.Write.{plusAll, zero}
 use Rattle.walk.specs.Walk.{Runs, mergedAs}
 use Rattle.delta.specs.Answer.{differenceOf, countsOf, outAfter, constructAt, constructOf, constructOut}
@@ -196,7 +198,7 @@ module _ (old new d : Bytes) where
   answer = constructOf old new (record { 0 = 0 }) (length d)
 
   module _ (s : Serial) (c : Counts) (e : answer ≡ constructed.Delta s c) where
-    out-is : constructOut old new d ≡ D ++ drop (length D) d
+    out-is : constructOut old new d ≡ writtenOver D d
     unfolding constructOut
     out-is = let m = made old new (length d) s c e in rw (m .admitted, le-leb (length D) (length d) (m .fits))
 

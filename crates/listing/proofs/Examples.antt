@@ -33,11 +33,11 @@ origin = 0x01 ∷ 0 ∷ 23 ∷ 4 ∷ 192 ∷ 0 ∷ 2 ∷ 0 ∷ 0 ∷ 0 ∷ 0 ∷
 -- document 01's example
 example : textOf Read [] Read origin 65_536
     ≡ ascii "serial 1 announced 1 withdrawn 0\nA 11 04 c0 00 02 00 00 00 00 00 00 00 00 00 00 00 00 00 18 18 00 00 fb f0\n"
-unfolding textOf constructOf differenceOf verdict verdictF judge front goodBody tagOf kindOf keyOf goodOrigin goodPrefix clean sensible cells cellsF field run.encode entries encode walk listingOf linesOf lineOf hexes threeOf named decimal decimalF
+unfolding textOf constructOf differenceOf verdict verdictF judge front goodBody tagOf kindOf keyOf goodOrigin goodPrefix clean sensible cells cellsF field run.cellBytes entries encode walk listingOf linesOf lineOf hexes threeOf named decimal decimalF
 example = refl
 
 same : textOf Read origin Read origin 65_536 ≡ ascii "no change\n"
-unfolding textOf constructOf differenceOf verdict verdictF judge front goodBody tagOf kindOf keyOf goodOrigin goodPrefix clean sensible cells cellsF field run.encode entries encode walk
+unfolding textOf constructOf differenceOf verdict verdictF judge front goodBody tagOf kindOf keyOf goodOrigin goodPrefix clean sensible cells cellsF field run.cellBytes entries encode walk
 same = refl
 
 refused : textOf Read (0x04 ∷ []) Read [] 65_536 ≡ ascii "refused 1 argument 1 at 0\n"

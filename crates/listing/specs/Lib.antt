@@ -1,5 +1,6 @@
 pub mod Text
-pub mod Put
 pub mod Listing
 pub mod Report
 pub mod Answer
+-- what only the contracts of inner functions say
+pub mod Put

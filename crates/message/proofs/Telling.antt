@@ -11,7 +11,7 @@ use Rattle.change.specs.Change.{Change, announce, withdraw}
 use Rattle.field.specs.declared.tag.Form.the-variants.{Delta}
 use Rattle.field.specs.Tag.{tagOf, goodBody}
 use Rattle.payload.specs.Content.{Bytes}
-use Rattle.payload.specs.Valid.{ValidValue, ValidChange, IsMap, origin, routerKey, announced, withdrawn}
+use Rattle.payload.specs.Valid.{ValidValue, ValidChange, IsMap, origin, routerKey, validAnnounce, validWithdraw}
 use Rattle.message.specs.declared.version.Version.{Version}
 use Rattle.message.specs.Message.{Message, serialNotify, serialQuery, cacheResponse, ipv4Prefix, ipv6Prefix, endOfData, cacheReset, routerKey as routerKeyMessage, errorReport}
 use Rattle.message.specs.Record.{Part, opening, payload, ending, misplaced, goodRecord, payloadOf, partOf}
@@ -50,8 +50,8 @@ pub tells-valid : (t : Told) → Tells t → ValidChange (t .key) (t .change)
 tells-valid t h = rw (h .is) (go (h .flag))
   where
     go : (f : Bool) → ValidChange (t .key) (cond f (announce []) (withdraw []))
-    go true = announced (h .value)
-    go false = withdrawn (h .value)
+    go true = validAnnounce (h .value)
+    go false = validWithdraw (h .value)
 
 pub tells-map : (t : Told) → Tells t → IsMap Delta (asItem t ∷ [])
 tells-map t h = record { sorted = (tt, tt); valid = (tells-valid t h, tt) }

@@ -25,7 +25,7 @@ use Rattle.past.specs.WellFormed.{wellFormed}
 use Rattle.past.specs.Create.{freshOf, createOf}
 use Rattle.past.specs.Update.{stepFor, updateOf, updateSnapshots, updateDeltas}
 use Rattle.past.specs.Query.{mergedLast, refusedWith, servedWith, queryOf}
-use Rattle.past.specs.Run.{World, Call, update, updated, replyOf, Run, startOf, runOf}
+use Rattle.past.specs.Run.{World, Call, update, updated, replyOf, Reached, startOf, runOf}
 use Rattle.past.specs.Marked.{p, q, customer, inSnapshot, delta1, delta2, delta3}
 
 -- a history as it stands with these deltas
@@ -62,10 +62,10 @@ updates [] = []
 updates (s ∷ ss) = update s ∷ updates ss
 
 -- a run of updates with this keep and start serial, and stores of 12 bytes 9 and of this many bytes 8
-abbrev runsFrom : ℕ → ℕ → ℕ → List Bytes → Run
+abbrev runsFrom : ℕ → ℕ → ℕ → List Bytes → Reached
 runsFrom keep start room news = runOf (startOf 65_543 keep (record { 0 = start }) (replicate 12 9) (replicate room 8)) (updates news)
 
-abbrev runs : ℕ → ℕ → List Bytes → Run
+abbrev runs : ℕ → ℕ → List Bytes → Reached
 runs keep room news = runsFrom keep 0 room news
 
 -- what a query of the session 7 gets of a history that holds nothing
@@ -133,7 +133,7 @@ pub record Examples : Type 0 where
   wrapped : wellFormed (any 2 true 0 0 11 (11 ∷ [])) (inSnapshot p) delta1 ≡ true
 
 pub examples : Examples
-unfolding createOf stepFor updateOf updateSnapshots updateDeltas queryOf wellFormed mergedLast verdict verdictF judge front goodBody tagOf kindOf keyOf goodAspa goodUpdate goodProviders asns ascending ascendingFrom sensible sensibleAspa sensibleUpdate sensibleProviders sensibleAsns isIn cells cellsF field run.encode entries encode walk differenceOf
+unfolding createOf stepFor updateOf updateSnapshots updateDeltas queryOf wellFormed mergedLast verdict verdictF judge front goodBody tagOf kindOf keyOf goodAspa goodUpdate goodProviders asns ascending ascendingFrom sensible sensibleAspa sensibleUpdate sensibleProviders sensibleAsns isIn cells cellsF field run.cellBytes entries encode walk differenceOf
 examples = record {
   first-run = refl;
   long-run = refl;

@@ -13,7 +13,7 @@ use Rattle.serial.specs.Serial.{nextOf}
 use Rattle.payload.specs.Content.{Bytes}
 use Rattle.delta.specs.Demand.{GoodSnapshot, Acceptable}
 use Rattle.past.specs.Update.{Step, refuse, first, unchanged, add, stepFor, updateAt, updateOf}
-use Rattle.past.specs.Run.{World, Call, update, query, full, notify, ready, givenBy, givenAfter, Run, runOf, orLast, carried}
+use Rattle.past.specs.Run.{World, Call, update, query, full, notify, ready, givenBy, givenAfter, Reached, runOf, orLast, carried}
 use Rattle.past.specs.Promise.{OfBytes, current, Promise}
 use Rattle.past.proofs.Lists.{all-push}
 use Rattle.past.proofs.Steps.{step-add, step-first}
@@ -37,7 +37,7 @@ given-step w full given o h = h
 given-step w notify given o h = h
 given-step w ready given o h = h
 
-pub given-acceptable : (r : Run) (calls : List Call) → All OfBytes calls → All Acceptable (r .given) → All Acceptable (runOf r calls .given)
+pub given-acceptable : (r : Reached) (calls : List Call) → All OfBytes calls → All Acceptable (r .given) → All Acceptable (runOf r calls .given)
 given-acceptable r [] o h = h
 given-acceptable r (c ∷ calls) o h = given-acceptable _ calls (o .1) (given-step (r .world) c (r .given) (o .0) h)
 
@@ -45,7 +45,7 @@ all-good : (ss : List Bytes) → All Acceptable ss → All GoodSnapshot ss
 all-good [] h = tt
 all-good (s ∷ ss) h = (h .0 .good, all-good ss (h .1))
 
-pub given-good : (r : Run) (calls : List Call) → All OfBytes calls → All Acceptable (r .given) → All GoodSnapshot (runOf r calls .given)
+pub given-good : (r : Reached) (calls : List Call) → All OfBytes calls → All Acceptable (r .given) → All GoodSnapshot (runOf r calls .given)
 given-good r calls o h = all-good (runOf r calls .given) (given-acceptable r calls o h)
 
 -- so is the one that carried a serial
@@ -63,7 +63,7 @@ all-carried P serial asked (s ∷ ss) base h e =
     go (some x) i e = i base e
 
 -- and the current one
-module _ (session keep : ℕ) (start : Serial) (r : Run) (p : Promise session keep start r) (goods : All GoodSnapshot (r .given)) where
+module _ (session keep : ℕ) (start : Serial) (r : Reached) (p : Promise session keep start r) (goods : All GoodSnapshot (r .given)) where
   pub good-current : ¬ (r .given ≡ []) → GoodSnapshot (current (r .world))
   good-current n = go (r .given) refl goods
     where

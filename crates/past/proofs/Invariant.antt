@@ -25,7 +25,8 @@ use Rattle.payload.specs.Content.{Bytes}
 use Rattle.payload.specs.Payload.{items, changes}
 use Rattle.payload.specs.Limit.{limit}
 use Rattle.delta.specs.Answer.{differenceOf}
-use Rattle.past.specs.Store.{total, joined, heldSnapshot, heldLengths, heldDeltas, storeAfter}
+use Rattle.past.specs.Store.{total, joined, heldSnapshot, heldLengths, heldDeltas}
+use Rattle.payload.specs.Written.{writtenOver}
 use Rattle.past.specs.WellFormed.{isGood, every, goodKeep, goodSerial, goodStart, wellFormed}
 use Rattle.past.specs.Update.{Step, refuse, first, unchanged, add, deltasWith, nextState, stepFor, updateAt, updateOf, snapshotsAt, updateSnapshots, deltasAt, updateDeltas}
 use Rattle.past.specs.Run.{World, Call, update, query, full, notify, ready, stepOf, givenBy, givenAfter}
@@ -175,7 +176,7 @@ module _ (session keep : ℕ) (start : Serial) (w : World) (new : Bytes) (octets
   begin : Waits session keep start w → Begins (w .history) new (w .snapshots) → Holds session keep start (after first) new []
   begin i b =
       let f = i .frame in
-      let l : length (storeAfter new (w .snapshots)) ≡ length (w .snapshots) = store-length new (w .snapshots) (b .fits) in
+      let l : length (writtenOver new (w .snapshots)) ≡ length (w .snapshots) = store-length new (w .snapshots) (b .fits) in
       record {
         frame = record {
           of-session = f .of-session;
@@ -214,7 +215,7 @@ module _ (session keep : ℕ) (start : Serial) (w : World) (new : Bytes) (octets
     abbrev next : List Bytes
     next = deltasWith (w .history) (w .deltas) d
 
-    next-held : heldDeltas (nextState (w .history) new next) (storeAfter (joined next) (w .deltas)) ≡ next
+    next-held : heldDeltas (nextState (w .history) new next) (writtenOver (joined next) (w .deltas)) ≡ next
     next-held = next-deltas (w .history) new next (drop (length (joined next)) (w .deltas))
 
     next-fine : All FineDelta next
@@ -239,8 +240,8 @@ module _ (session keep : ℕ) (start : Serial) (w : World) (new : Bytes) (octets
         let f = i .frame in
         let j : length (joined next) ≡ total (map length next) = joined-length next in
         let r : total (map length next) ≤ length (w .deltas) = a .room in
-        let l : length (storeAfter new (w .snapshots)) ≡ length (w .snapshots) = store-length new (w .snapshots) (a .fits) in
-        let m : length (storeAfter (joined next) (w .deltas)) ≡ length (w .deltas) = store-length (joined next) (w .deltas) (omega arith) in
+        let l : length (writtenOver new (w .snapshots)) ≡ length (w .snapshots) = store-length new (w .snapshots) (a .fits) in
+        let m : length (writtenOver (joined next) (w .deltas)) ≡ length (w .deltas) = store-length (joined next) (w .deltas) (omega arith) in
         record {
           frame = record {
             of-session = f .of-session;

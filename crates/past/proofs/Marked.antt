@@ -1,7 +1,7 @@
 -- The marked examples hold, by computation.
 use mathlib.Core.Path.{refl}
 use Rattle.order.specs.Walk.{walk}
-use Rattle.serial.specs.Rfc1982.{firstOf, standing}
+use Rattle.serial.specs.Rfc1982.{firstTrue, standing}
 use Rattle.field.specs.Tag.{tagOf, kindOf, goodBody, sensible}
 use Rattle.field.specs.Aspa.{asns, ascendingFrom, ascending, goodProviders, goodAspa, goodUpdate, isIn, sensibleAsns, sensibleProviders, sensibleAspa, sensibleUpdate}
 use Rattle.field.specs.Head.{front}
@@ -17,7 +17,7 @@ use Rattle.past.specs.Marked.{Marked}
 
 -- K1 to K11
 pub marked : Marked
-unfolding standing firstOf queryOf queryOut wellFormed mergedLast verdict verdictF judge front goodBody tagOf kindOf keyOf goodAspa goodUpdate goodProviders asns ascending ascendingFrom sensible sensibleAspa sensibleUpdate sensibleProviders sensibleAsns isIn cells cellsF field run.encode entries encode walk differenceOf mergedOf constructOf mergeOf mergeOut
+unfolding standing firstTrue queryOf queryOut wellFormed mergedLast verdict verdictF judge front goodBody tagOf kindOf keyOf goodAspa goodUpdate goodProviders asns ascending ascendingFrom sensible sensibleAspa sensibleUpdate sensibleProviders sensibleAsns isIn cells cellsF field run.cellBytes entries encode walk differenceOf mergedOf constructOf mergeOf mergeOut
 marked = record {
   k1 = refl;
   k2 = (refl, refl);

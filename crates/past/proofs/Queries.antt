@@ -18,7 +18,7 @@ use Rattle.delta.specs.declared.admit.Admitted.{Admitted}
 use Rattle.item.specs.declared.sink.Counts.{Counts}
 use Rattle.delta.specs.Admission.{andThen}
 use Rattle.delta.specs.Answer.{countsOf, outAfter}
-use Rattle.delta.specs.Demand.{holding}
+use Rattle.payload.specs.Written.{writtenOver}
 use Rattle.past.specs.declared.state.History.{History}
 use Rattle.past.specs.declared.query.Answer.{Answer}
 use Rattle.past.specs.declared.query.Answer.the-variants.{Refused, Served}
@@ -161,7 +161,7 @@ module _ (h : History) (session : Session) (asked : Serial) (snapshots deltas : 
     unfolding queryOut
     out-served = let f = found in rw (f .4, f .0, f .1, f .2, f .3) (take-append-seam D (drop (length D) out))
 
-    pub out-whole : queryOut h session asked snapshots deltas out ≡ holding (answerOf h asked deltas) out
+    pub out-whole : queryOut h session asked snapshots deltas out ≡ writtenOver (answerOf h asked deltas) out
     unfolding queryOut
     out-whole = let f = found in rw (f .0, f .1, f .2, f .3)
 

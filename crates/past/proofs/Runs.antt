@@ -50,10 +50,11 @@ use Rattle.past.specs.Create.{createAt, createOf}
 use Rattle.past.specs.Update.{Step, refuse, first, unchanged, add, stepFor, updateAt, updateOf, snapshotsAt, updateSnapshots, deltasAt, updateDeltas}
 use Rattle.past.specs.Query.{isServed, isSession, mergedLast, answerOf, servedWith, queryOut}
 use Rattle.past.specs.Full.{fullOf, notifyOf, readyOf}
-use Rattle.past.specs.Run.{World, Call, update, query, full, notify, ready, queried, fully, noticed, isReady, replyOf, lentTo, leftIn, stepOf, refusedUpdate, refusedAnswer, numbered, refusedAs, refusal, Run, startOf, runOf, carried}
+use Rattle.past.specs.Run.{World, Call, update, query, full, notify, ready, queried, fully, noticed, isReady, replyOf, lentTo, leftIn, stepOf, refusedUpdate, refusedAnswer, numbered, refusedAs, refusal, Reached, startOf, runOf, carried}
 use Rattle.past.specs.Promise.{OfBytes, changesIn, serialIn, InRule, due, Leads, current, writtenIn, queriedIn, Promise, EveryRun}
 use Rattle.past.proofs.Lists.{map-lastN, map-newest, map-nth, all-map}
-use Rattle.delta.specs.Demand.{GoodSnapshot, holding}
+use Rattle.delta.specs.Demand.{GoodSnapshot}
+use Rattle.payload.specs.Written.{writtenOver}
 use Rattle.delta.proofs.Differences.{good-map, difference-applies, difference-fits, difference-yields}
 use Rattle.past.proofs.Served.{served-rule, rule-served, rule-within, carried-back}
 use Rattle.past.proofs.Steps.{step-seven, refused-step}
@@ -158,7 +159,7 @@ module _ {session keep : ℕ} {start : Serial} {w : World} {S : Bytes} {Ts : Lis
 
 -- before the first snapshot nothing is due
 waits-due : {session keep : ℕ} {start : Serial} {w : World} → Waits session keep start w → (asked : Serial) → answerOf (w .history) asked (w .deltas) ≡ []
-unfolding mergedLast encode run.encode
+unfolding mergedLast encode run.cellBytes
 waits-due {w = w} i asked = rw (i .count, drop-nil (0 - distanceOf (w .history .newest) asked))
 
 queried-path : {a b : Queried} {x y : Bytes} → a ≡ b → x ≡ y → queried a x ≡ queried b y
@@ -207,7 +208,7 @@ start-inv session keep start snapshots deltas bound = go (goodKeep keep) refl (l
     go true p false q v r e = refusal e
     go false p u q v r e = refusal e
 
-run-inv : (session keep : ℕ) (start : Serial) (r : Run) (calls : List Call) → All OfBytes calls → Inv session keep start (r .world) (r .given) →
+run-inv : (session keep : ℕ) (start : Serial) (r : Reached) (calls : List Call) → All OfBytes calls → Inv session keep start (r .world) (r .given) →
     Inv session keep start (runOf r calls .world) (runOf r calls .given)
 run-inv session keep start r [] o i = i
 run-inv session keep start r (c ∷ calls) o i = run-inv session keep start _ calls (o .1) (call-inv session keep start (r .world) (r .given) c (o .0) i)
@@ -234,15 +235,15 @@ module _ (session keep : ℕ) (start : Serial) (w : World) where
     formed = inv-formed session keep start w given i
 
     -- the session of the creation
-    same-session : (s : Session) → isSession (w .history) s ≡ eqb (s .0) (session % 65_536)
+    same-session : (s : Session) → isSession (w .history) s ≡ eqb (s .0) (sessionOf session .0)
     same-session s = rw (inv-frame given i .of-session)
 
-    inv-five : (s : Session) (asked : Serial) (out : Bytes) → refusedAs (replyOf w (query s asked out)) ≡ refusal 5 0 0 ↔ ¬ (s .0 ≡ session % 65_536)
+    inv-five : (s : Session) (asked : Serial) (out : Bytes) → refusedAs (replyOf w (query s asked out)) ≡ refusal 5 0 0 ↔ ¬ (s .0 ≡ sessionOf session .0)
     inv-five s asked out =
         let q = queries.five (w .history) s asked (w .snapshots) (w .deltas) (length out) in
         through (answer-refused (queriedIn w s asked (length out) .answer) OtherSession) (
-          λ e. eqb-false (s .0) (session % 65_536) (sym (same-session s) ∙ q .0 e .1),
-          λ n. q .1 (formed, same-session s ∙ ne-eqb (s .0) (session % 65_536) n),
+          λ e. eqb-false (s .0) (sessionOf session .0) (sym (same-session s) ∙ q .0 e .1),
+          λ n. q .1 (formed, same-session s ∙ ne-eqb (s .0) (sessionOf session .0) n),
         )
 
     same-name : sessionOf (w .history .session) ≡ sessionOf session
@@ -266,15 +267,15 @@ module _ (session keep : ℕ) (start : Serial) (w : World) where
         go false e = refl
 
     inv-six : (s : Session) (asked : Serial) (out : Bytes) →
-        refusedAs (replyOf w (query s asked out)) ≡ refusal 6 0 0 ↔ (s .0 ≡ session % 65_536) × ¬ InRule keep start given asked
+        refusedAs (replyOf w (query s asked out)) ≡ refusal 6 0 0 ↔ (s .0 ≡ sessionOf session .0) × ¬ InRule keep start given asked
     inv-six s asked out =
         let q = queries.six (w .history) s asked (w .snapshots) (w .deltas) (length out) in
         through (answer-refused (queriedIn w s asked (length out) .answer) NotServed) (
           λ e. (
-            eqb-true (s .0) (session % 65_536) (sym (same-session s) ∙ q .0 e .1),
+            eqb-true (s .0) (sessionOf session .0) (sym (same-session s) ∙ q .0 e .1),
             λ r. true≢false (sym (rule-of asked .1 r) ∙ q .0 e .2),
           ),
-          λ e. q .1 (formed, same-session s ∙ eq-eqb (s .0) (session % 65_536) (e .0), unserved asked (e .1)),
+          λ e. q .1 (formed, same-session s ∙ eq-eqb (s .0) (sessionOf session .0) (e .0), unserved asked (e .1)),
         )
 
     -- what a served query gets is what is due
@@ -288,14 +289,14 @@ module _ (session keep : ℕ) (start : Serial) (w : World) where
 
     inv-four : (s : Session) (asked : Serial) (out : Bytes) → asked .0 < 2 ^ 32 →
         refusedAs (replyOf w (query s asked out)) ≡ refusal 4 0 0
-        ↔ (s .0 ≡ session % 65_536) × InRule keep start given asked × (length out < length (due w start given asked))
+        ↔ (s .0 ≡ sessionOf session .0) × InRule keep start given asked × (length out < length (due w start given asked))
     inv-four s asked out l =
         let q = queries.four (w .history) s asked (w .snapshots) (w .deltas) (length out) in
         through (answer-refused (queriedIn w s asked (length out) .answer) NoRoom) (
           λ e.
               let f = q .0 e in
               let k : length out < length (answerOf (w .history) asked (w .deltas)) = leb-false (length (answerOf (w .history) asked (w .deltas))) (length out) (f .3) in (
-                eqb-true (s .0) (session % 65_536) (sym (same-session s) ∙ f .1),
+                eqb-true (s .0) (sessionOf session .0) (sym (same-session s) ∙ f .1),
                 rule-of asked .0 (f .2),
                 rw (inv-due asked l (f .2)) at k,
               ),
@@ -303,24 +304,24 @@ module _ (session keep : ℕ) (start : Serial) (w : World) where
               let v = rule-of asked .1 (e .1) in
               q .1 (
                 formed,
-                same-session s ∙ eq-eqb (s .0) (session % 65_536) (e .0),
+                same-session s ∙ eq-eqb (s .0) (sessionOf session .0) (e .0),
                 v,
                 lt-leb (length (answerOf (w .history) asked (w .deltas))) (length out) (rw (inv-due asked l v) (e .2)),
               ),
         )
 
-    inv-serves : (s : Session) (asked : Serial) (out : Bytes) → asked .0 < 2 ^ 32 → s .0 ≡ session % 65_536 → InRule keep start given asked →
+    inv-serves : (s : Session) (asked : Serial) (out : Bytes) → asked .0 < 2 ^ 32 → s .0 ≡ sessionOf session .0 → InRule keep start given asked →
         length (due w start given asked) ≤ length out →
         replyOf w (query s asked out)
-        ≡ queried (record { session = sessionOf session; serial = serialIn start given; answer = answers.Served (countsOf (due w start given asked)) }) (holding (due w start given asked) out)
+        ≡ queried (record { session = sessionOf session; serial = serialIn start given; answer = answers.Served (countsOf (due w start given asked)) }) (writtenOver (due w start given asked) out)
     inv-serves s asked out l e r k =
         let v = rule-of asked .1 r in
         let d = inv-due asked l v in
         let m : length (answerOf (w .history) asked (w .deltas)) ≤ length out = rw d k in
-        let p = queries.serves (w .history) s asked (w .snapshots) (w .deltas) (length out) formed (same-session s ∙ eq-eqb (s .0) (session % 65_536) e) v m in
+        let p = queries.serves (w .history) s asked (w .snapshots) (w .deltas) (length out) formed (same-session s ∙ eq-eqb (s .0) (sessionOf session .0) e) v m in
         queried-path (p ∙ served-path same-name (inv-serial given i) d)
         (queries.out-whole (w .history) s asked (w .snapshots) (w .deltas) out (countsOf (answerOf (w .history) asked (w .deltas))) (ap (λ (a : Queried). a .answer) p)
-        ∙ ap (λ (x : Bytes). holding x out) d)
+        ∙ ap (λ (x : Bytes). writtenOver x out) d)
 
     inv-ordered : (s : Session) (asked : Serial) (out : Bytes) (c : Counts) → asked .0 < 2 ^ 32 → queriedIn w s asked (length out) .answer ≡ answers.Served c →
         (standing asked (serialIn start given) ≡ Equal) ⊎ (standing asked (serialIn start given) ≡ Before)
@@ -328,7 +329,7 @@ module _ (session keep : ℕ) (start : Serial) (w : World) where
         let f = inv-frame given i in
         rule-before keep start given asked (f .least) (f .most) (f .bound) l (rule-of asked .0 (queries.found-served (w .history) s asked (w .snapshots) (w .deltas) out c e))
 
-    inv-unordered : (s : Session) (asked : Serial) (out : Bytes) → asked .0 < 2 ^ 32 → s .0 ≡ session % 65_536 → standing asked (serialIn start given) ≡ Unordered →
+    inv-unordered : (s : Session) (asked : Serial) (out : Bytes) → asked .0 < 2 ^ 32 → s .0 ≡ sessionOf session .0 → standing asked (serialIn start given) ≡ Unordered →
         refusedAs (replyOf w (query s asked out)) ≡ refusal 6 0 0
     inv-unordered s asked out l e u =
         let f = inv-frame given i in
@@ -376,7 +377,7 @@ promise session keep start snapshots deltas bound done calls octets =
     go (runOf (startOf session keep start snapshots deltas) calls)
     (run-inv session keep start (startOf session keep start snapshots deltas) calls octets (start-inv session keep start snapshots deltas bound done))
   where
-    go : (r : Run) → Inv session keep start (r .world) (r .given) → Promise session keep start r
+    go : (r : Reached) → Inv session keep start (r .world) (r .given) → Promise session keep start r
     go r i = record {
       formed = formed session keep start (r .world) (r .given) i;
       no-seven = formed-seven (r .world) (formed session keep start (r .world) (r .given) i);

@@ -10,13 +10,13 @@ use Rattle.delta.specs.Shortest.{LeadsTo}
 use Rattle.delta.proofs.Shortest as delta
 use Rattle.past.specs.declared.create.Creation.the-variants.{Done}
 use Rattle.past.specs.Create.{createOf}
-use Rattle.past.specs.Run.{Call, Run, startOf, runOf}
+use Rattle.past.specs.Run.{Call, Reached, startOf, runOf}
 use Rattle.past.specs.Promise.{OfBytes, Leads, writtenIn, current, Promise}
 use Rattle.past.specs.Shortest.{ShortestHome, Shortest}
 use Rattle.past.proofs.Runs.{promise}
 use Rattle.past.proofs.Given.{given-good, all-carried, good-current}
 
-module _ (session keep : ℕ) (start : Serial) (r : Run) (p : Promise session keep start r) (goods : All GoodSnapshot (r .given)) where
+module _ (session keep : ℕ) (start : Serial) (r : Reached) (p : Promise session keep start r) (goods : All GoodSnapshot (r .given)) where
   home : (asked : Serial) (answer : Bytes) → ¬ (r .given ≡ []) → Leads start (r .given) (current (r .world)) asked answer →
       ShortestHome start (r .given) (current (r .world)) asked answer
   home asked answer n l =
@@ -38,5 +38,5 @@ shortest session keep start snapshots deltas bound done calls octets =
     (promise session keep start snapshots deltas bound done calls octets)
     (given-good (startOf session keep start snapshots deltas) calls octets tt)
   where
-    go : (r : Run) → Promise session keep start r → All GoodSnapshot (r .given) → Shortest start r
+    go : (r : Reached) → Promise session keep start r → All GoodSnapshot (r .given) → Shortest start r
     go r p g = record { home = λ s asked out c l n e. home session keep start r p g asked (writtenIn (r .world) s asked out c) n (p .leads s asked out c l n e) }

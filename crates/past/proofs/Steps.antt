@@ -20,7 +20,7 @@ use Rattle.delta.specs.declared.refusal.Refusal.the-variants.{IllFormed, StoreF
 use Rattle.delta.specs.declared.refusal.Refusal.the-variants as refusal
 use Rattle.delta.specs.declared.admit.Admitted.{Admitted}
 use Rattle.delta.specs.declared.admit.Admitted.the-variants.{Yes, No}
-use Rattle.delta.specs.Admission.{refusalOf, andThen, admitOneOf}
+use Rattle.delta.specs.Admission.{verdictAdmitted, andThen, admitOneOf}
 use Rattle.item.specs.declared.sink.Counts.{Counts}
 use Rattle.delta.specs.Answer.{differenceOf, countsOf}
 use Rattle.past.specs.declared.state.History.{History}
@@ -37,7 +37,7 @@ never z = absurd (omega arith)
 pub admitted-fine : (form : Form) (s : Bytes) → admitOneOf form s ≡ Yes → verdict form s ≡ Fine
 admitted-fine form s = go (leb (length s) (limit form)) (verdict form s)
   where
-    go : (t : Bool) (v : Verdict) → andThen (cond t Yes (No (TooLong 1))) (refusalOf 1 v) ≡ Yes → v ≡ Fine
+    go : (t : Bool) (v : Verdict) → andThen (cond t Yes (No (TooLong 1))) (verdictAdmitted 1 v) ≡ Yes → v ≡ Fine
     go true Fine e = refl
     go true (Bad at) e = never (cc)
     go true (Senseless at) e = never (cc)
@@ -48,7 +48,7 @@ admitted-fine form s = go (leb (length s) (limit form)) (verdict form s)
 pub admitted-short : (form : Form) (s : Bytes) → admitOneOf form s ≡ Yes → length s ≤ limit form
 admitted-short form s = go (leb (length s) (limit form)) refl
   where
-    go : (t : Bool) → leb (length s) (limit form) ≡ t → andThen (cond t Yes (No (TooLong 1))) (refusalOf 1 (verdict form s)) ≡ Yes → length s ≤ limit form
+    go : (t : Bool) → leb (length s) (limit form) ≡ t → andThen (cond t Yes (No (TooLong 1))) (verdictAdmitted 1 (verdict form s)) ≡ Yes → length s ≤ limit form
     go true p e = leb-true (length s) (limit form) p
     go false p e = never (cc)
 
@@ -59,7 +59,7 @@ fine-admitted form s l e = rw (le-leb (length s) (limit form) l, e)
 pub input-ten : (form : Form) (s : Bytes) → admitOneOf form s ≡ No (TooLong 1) ↔ limit form < length s
 input-ten form s = (go (leb (length s) (limit form)) refl (verdict form s), λ l. rw (lt-leb (length s) (limit form) l))
   where
-    go : (t : Bool) → leb (length s) (limit form) ≡ t → (v : Verdict) → andThen (cond t Yes (No (TooLong 1))) (refusalOf 1 v) ≡ No (TooLong 1) → limit form < length s
+    go : (t : Bool) → leb (length s) (limit form) ≡ t → (v : Verdict) → andThen (cond t Yes (No (TooLong 1))) (verdictAdmitted 1 v) ≡ No (TooLong 1) → limit form < length s
     go true p Fine e = never (cc)
     go true p (Bad at) e = never (cc)
     go true p (Senseless at) e = never (cc)
@@ -70,7 +70,7 @@ input-ten form s = (go (leb (length s) (limit form)) refl (verdict form s), λ l
 pub input-one : (form : Form) (s : Bytes) (at : ℕ) → admitOneOf form s ≡ No (refusal.Bad 1 at) ↔ (length s ≤ limit form) × (verdict form s ≡ Bad at)
 input-one form s at = (go (leb (length s) (limit form)) refl (verdict form s), λ e. rw (le-leb (length s) (limit form) (e .0), e .1))
   where
-    go : (t : Bool) → leb (length s) (limit form) ≡ t → (v : Verdict) → andThen (cond t Yes (No (TooLong 1))) (refusalOf 1 v) ≡ No (refusal.Bad 1 at) →
+    go : (t : Bool) → leb (length s) (limit form) ≡ t → (v : Verdict) → andThen (cond t Yes (No (TooLong 1))) (verdictAdmitted 1 v) ≡ No (refusal.Bad 1 at) →
         (length s ≤ limit form) × (v ≡ Bad at)
     go true p Fine e = never (cc)
     go true p (Bad at) e = (leb-true (length s) (limit form) p, cc)
@@ -81,7 +81,7 @@ input-one form s at = (go (leb (length s) (limit form)) refl (verdict form s), �
 pub input-twelve : (form : Form) (s : Bytes) (at : ℕ) → admitOneOf form s ≡ No (refusal.Senseless 1 at) ↔ (length s ≤ limit form) × (verdict form s ≡ Senseless at)
 input-twelve form s at = (go (leb (length s) (limit form)) refl (verdict form s), λ e. rw (le-leb (length s) (limit form) (e .0), e .1))
   where
-    go : (t : Bool) → leb (length s) (limit form) ≡ t → (v : Verdict) → andThen (cond t Yes (No (TooLong 1))) (refusalOf 1 v) ≡ No (refusal.Senseless 1 at) →
+    go : (t : Bool) → leb (length s) (limit form) ≡ t → (v : Verdict) → andThen (cond t Yes (No (TooLong 1))) (verdictAdmitted 1 v) ≡ No (refusal.Senseless 1 at) →
         (length s ≤ limit form) × (v ≡ Senseless at)
     go true p Fine e = never (cc)
     go true p (Bad at) e = never (cc)
@@ -92,7 +92,7 @@ input-twelve form s at = (go (leb (length s) (limit form)) refl (verdict form s)
 pub input-two : (form : Form) (s : Bytes) (at : ℕ) → admitOneOf form s ≡ No (refusal.NotAbove 1 at) ↔ (length s ≤ limit form) × (verdict form s ≡ NotAbove at)
 input-two form s at = (go (leb (length s) (limit form)) refl (verdict form s), λ e. rw (le-leb (length s) (limit form) (e .0), e .1))
   where
-    go : (t : Bool) → leb (length s) (limit form) ≡ t → (v : Verdict) → andThen (cond t Yes (No (TooLong 1))) (refusalOf 1 v) ≡ No (refusal.NotAbove 1 at) →
+    go : (t : Bool) → leb (length s) (limit form) ≡ t → (v : Verdict) → andThen (cond t Yes (No (TooLong 1))) (verdictAdmitted 1 v) ≡ No (refusal.NotAbove 1 at) →
         (length s ≤ limit form) × (v ≡ NotAbove at)
     go true p Fine e = never (cc)
     go true p (Bad at) e = never (cc)
@@ -104,7 +104,7 @@ input-two form s at = (go (leb (length s) (limit form)) refl (verdict form s), �
 refusal-kind : (form : Form) (s : Bytes) (r : Refusal) → admitOneOf form s ≡ No r → ¬ (r ≡ IllFormed) × ¬ (r ≡ StoreFull)
 refusal-kind form s r = go (leb (length s) (limit form)) (verdict form s)
   where
-    go : (t : Bool) (v : Verdict) → andThen (cond t Yes (No (TooLong 1))) (refusalOf 1 v) ≡ No r → ¬ (r ≡ IllFormed) × ¬ (r ≡ StoreFull)
+    go : (t : Bool) (v : Verdict) → andThen (cond t Yes (No (TooLong 1))) (verdictAdmitted 1 v) ≡ No r → ¬ (r ≡ IllFormed) × ¬ (r ≡ StoreFull)
     go true Fine e = never (cc)
     go true (Bad at) e = (λ q. never (cc), λ q. never (cc))
     go true (Senseless at) e = (λ q. never (cc), λ q. never (cc))

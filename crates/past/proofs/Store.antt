@@ -7,7 +7,8 @@ use lib.ListN.{length, drop, replicate, length-append, length-drop, length-map}
 use lib.Seq.{take-at, take-append-seam, drop-append-seam}
 use Rattle.payload.specs.Content.{Bytes}
 use Rattle.past.specs.declared.state.History.{History}
-use Rattle.past.specs.Store.{total, cuts, joined, heldLengths, heldDeltas, storeAfter}
+use Rattle.past.specs.Store.{total, cuts, joined, heldLengths, heldDeltas}
+use Rattle.payload.specs.Written.{writtenOver}
 use Rattle.past.specs.Update.{nextState}
 
 pub cuts-joined : (ds : List Bytes) (s : Bytes) → cuts (map length ds) (joined ds ++ s) ≡ ds
@@ -25,7 +26,7 @@ cuts-length [] s = refl
 cuts-length (k ∷ ks) s = rw (cuts-length ks (drop k s))
 
 -- a store keeps its length
-pub store-length : (s store : Bytes) → length s ≤ length store → length (storeAfter s store) ≡ length store
+pub store-length : (s store : Bytes) → length s ≤ length store → length (writtenOver s store) ≡ length store
 store-length s store h = simp (length-append, length-drop) (omega arith)
 
 module _ (h : History) (new : Bytes) (ds : List Bytes) where

@@ -8,7 +8,7 @@ use Rattle.payload.specs.Content.{Bytes}
 use Rattle.delta.specs.declared.refusal.Refusal.the-variants.{BadKeep}
 use Rattle.delta.specs.declared.admit.Admitted.{Admitted}
 use Rattle.delta.specs.declared.admit.Admitted.the-variants.{Yes, No}
-use Rattle.delta.specs.Admission.{andThen, limitOf}
+use Rattle.delta.specs.Admission.{andThen, limitAdmitted}
 use Rattle.past.specs.declared.state.History.{History}
 use Rattle.past.specs.declared.create.Creation.the-variants.{Done, Refused}
 use Rattle.past.specs.declared.create.Created.{Created}
@@ -31,7 +31,7 @@ freshOf session keep start = record {
 -- 8 if keep is not 1 to 64, then 10 if a store is over its length limit
 abbrev pub createAdmitted : ℕ → Bytes → Bytes → Admitted
 createAdmitted keep snapshots deltas =
-    andThen (cond (goodKeep keep) Yes (No BadKeep)) (andThen (limitOf Snapshot snapshots 1) (limitOf Delta deltas 2))
+    andThen (cond (goodKeep keep) Yes (No BadKeep)) (andThen (limitAdmitted Snapshot snapshots 1) (limitAdmitted Delta deltas 2))
 
 -- a fresh history, or a history of zeros
 abbrev pub createAt : Admitted → ℕ → ℕ → Serial → Created

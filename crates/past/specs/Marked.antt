@@ -2,7 +2,6 @@
 use Prim.Native.Nat.{ℕ}
 use mathlib.Core.Path.{_≡_}
 use mathlib.Core.List.{List, [], _∷_, _++_}
-use mathlib.Core.Bool.{true}
 use lib.ListN.{length, replicate}
 use Rattle.serial.specs.declared.Serial.{Serial}
 use Rattle.serial.specs.declared.order.Standing.the-variants.{Unordered}
@@ -18,7 +17,9 @@ use Rattle.delta.specs.Answer.{mergedOf, countsOf, constructOf, mergeOf, mergeO
 use Rattle.past.specs.declared.state.History.{History}
 use Rattle.past.specs.declared.query.Answer.the-variants.{Refused, Served}
 use Rattle.past.specs.declared.query.Queried.{Queried}
-use Rattle.past.specs.Store.{joined, lengthsOf, storeAfter}
+use Rattle.past.specs.Store.{joined, holdingOf}
+use Rattle.payload.specs.Written.{writtenOver}
+use Rattle.past.specs.Create.{freshOf}
 use Rattle.past.specs.Query.{queryOf, queryOut}
 
 abbrev pub serial : ℕ → Serial
@@ -62,28 +63,19 @@ abbrev pub lent : Bytes
 lent = replicate 20 9
 
 -- a history of the session 65,543, which is 7 in 16 bits
-abbrev pub holding : ℕ → Bytes → List Bytes → History
-holding newest s ds = record {
-  session = 65_543;
-  keep = 10;
-  active = true;
-  newest = serial newest;
-  start = serial 0;
-  n = length ds;
-  snapshot = length s;
-  deltas = lengthsOf ds;
-}
+abbrev pub historyWith : ℕ → Bytes → List Bytes → History
+historyWith newest s ds = holdingOf (freshOf 65_543 10 (serial 0)) (serial newest) s ds
 
 -- what a query gets of a history with this newest serial, snapshot and these deltas, oldest first; and the output afterwards
 abbrev pub asks : ℕ → Bytes → List Bytes → ℕ → Queried × Bytes
 asks newest s ds asked = (
-  queryOf (holding newest s ds) (record { 0 = 7 }) (serial asked) s (joined ds) (length lent),
-  queryOut (holding newest s ds) (record { 0 = 7 }) (serial asked) s (joined ds) lent,
+  queryOf (historyWith newest s ds) (record { 0 = 7 }) (serial asked) s (joined ds) (length lent),
+  queryOut (historyWith newest s ds) (record { 0 = 7 }) (serial asked) s (joined ds) lent,
 )
 
 -- it gets a delta
 abbrev pub gets : ℕ → Bytes → Queried × Bytes
-gets newest d = (record { session = record { 0 = 7 }; serial = serial newest; answer = Served (countsOf d) }, storeAfter d lent)
+gets newest d = (record { session = record { 0 = 7 }; serial = serial newest; answer = Served (countsOf d) }, writtenOver d lent)
 
 -- it gets refusal 6
 abbrev pub getsSix : Queried × Bytes
@@ -94,7 +86,7 @@ abbrev pub merges : Bytes → Bytes → Merged × Bytes
 merges earlier later = (mergeOf earlier later (serial 2) (length lent), mergeOut earlier later lent)
 
 abbrev pub into : Bytes → Merged × Bytes
-into d = (merged.Delta (serial 2) (countsOf d), storeAfter d lent)
+into d = (merged.Delta (serial 2) (countsOf d), writtenOver d lent)
 
 abbrev pub seconds : ℕ → ℕ → ℕ → Timing
 seconds refresh retry expire = record { refresh = refresh; retry = retry; expire = expire }

@@ -28,7 +28,8 @@ use Rattle.item.specs.declared.sink.Counts.{Counts}
 use Rattle.walk.specs.Fit.{fitOf}
 use Rattle.delta.specs.Refusal.{Values}
 use Rattle.delta.specs.Answer.{differenceOf, appliedOf, countsOf}
-use Rattle.delta.specs.Demand.{Acceptable, holding}
+use Rattle.delta.specs.Demand.{Acceptable}
+use Rattle.payload.specs.Written.{writtenOver}
 use Rattle.past.specs.declared.create.Creation.{Creation}
 use Rattle.past.specs.declared.create.Creation.the-variants as creation
 use Rattle.past.specs.declared.update.Update.the-variants.{First, Unchanged, Changed}
@@ -39,7 +40,7 @@ use Rattle.past.specs.Store.{total, heldSnapshot}
 use Rattle.past.specs.WellFormed.{wellFormed}
 use Rattle.past.specs.Create.{freshOf, createOf}
 use Rattle.past.specs.Query.{queryOf, queryOut}
-use Rattle.past.specs.Run.{World, Call, update, query, full, notify, ready, updated, queried, fully, noticed, isReady, replyOf, lentTo, leftIn, stepOf, numbered, refusedAs, refusal, Run, startOf, runOf, carried}
+use Rattle.past.specs.Run.{World, Call, update, query, full, notify, ready, updated, queried, fully, noticed, isReady, replyOf, lentTo, leftIn, stepOf, numbered, refusedAs, refusal, Reached, startOf, runOf, carried}
 
 -- the new snapshot of an update is a list of bytes, good or not; of other calls nothing is asked
 abbrev pub OfBytes : Call → Type 0
@@ -150,7 +151,7 @@ pub record Creates (session keep : ℕ) (start : Serial) (snapshots deltas : Byt
   pub done : (1 ≤ keep) → (keep ≤ 64) → (length snapshots ≤ limit Snapshot) → (length deltas ≤ limit Delta) →
       createOf session keep start snapshots deltas ≡ record { answer = creation.Done; history = freshOf session keep start }
 
-pub record Promise (session keep : ℕ) (start : Serial) (r : Run) : Type 0 where
+pub record Promise (session keep : ℕ) (start : Serial) (r : Reached) : Type 0 where
   -- the history stays well formed with its stores, so that refusal 7 never comes
   pub formed : wellFormed (r .world .history) (r .world .snapshots) (r .world .deltas) ≡ true
   pub no-seven : (c : Call) → ¬ (refusedAs (replyOf (r .world) c) ≡ refusal 7 0 0)
@@ -164,20 +165,20 @@ pub record Promise (session keep : ℕ) (start : Serial) (r : Run) : Type 0 wher
   pub updates : (new : Bytes) → AllBytes new → Updates keep (r .world) (r .given) new
   -- a query is refused with 5 exactly for another session
   pub five : (s : Session) (asked : Serial) (out : Bytes) →
-      refusedAs (replyOf (r .world) (query s asked out)) ≡ refusal 5 0 0 ↔ ¬ (s .0 ≡ session % 65_536)
+      refusedAs (replyOf (r .world) (query s asked out)) ≡ refusal 5 0 0 ↔ ¬ (s .0 ≡ sessionOf session .0)
   -- else with 6 exactly for a serial that is not served by the rule
   pub six : (s : Session) (asked : Serial) (out : Bytes) →
-      refusedAs (replyOf (r .world) (query s asked out)) ≡ refusal 6 0 0 ↔ (s .0 ≡ session % 65_536) × ¬ InRule keep start (r .given) asked
+      refusedAs (replyOf (r .world) (query s asked out)) ≡ refusal 6 0 0 ↔ (s .0 ≡ sessionOf session .0) × ¬ InRule keep start (r .given) asked
   -- else with 4 exactly if what is due is longer than the output
   pub four : (s : Session) (asked : Serial) (out : Bytes) → asked .0 < 2 ^ 32 →
       refusedAs (replyOf (r .world) (query s asked out)) ≡ refusal 4 0 0
-      ↔ (s .0 ≡ session % 65_536) × InRule keep start (r .given) asked × (length out < length (due (r .world) start (r .given) asked))
+      ↔ (s .0 ≡ sessionOf session .0) × InRule keep start (r .given) asked × (length out < length (due (r .world) start (r .given) asked))
   -- else it is served: the 16-bit session, F, the length and counts of what is due, and its bytes, then the output as it was
-  pub serves : (s : Session) (asked : Serial) (out : Bytes) → asked .0 < 2 ^ 32 → s .0 ≡ session % 65_536 → InRule keep start (r .given) asked →
+  pub serves : (s : Session) (asked : Serial) (out : Bytes) → asked .0 < 2 ^ 32 → s .0 ≡ sessionOf session .0 → InRule keep start (r .given) asked →
       length (due (r .world) start (r .given) asked) ≤ length out →
       replyOf (r .world) (query s asked out)
       ≡ queried (record { session = sessionOf session; serial = serialIn start (r .given); answer = Served (countsOf (due (r .world) start (r .given) asked)) })
-      (holding (due (r .world) start (r .given) asked) out)
+      (writtenOver (due (r .world) start (r .given) asked) out)
   -- a served query's answer names the 16-bit session and F, and the length and counts of what it has written
   pub names : (s : Session) (asked : Serial) (out : Bytes) (c : Counts) → queriedIn (r .world) s asked (length out) .answer ≡ Served c →
       (queriedIn (r .world) s asked (length out) .session ≡ sessionOf session) × (queriedIn (r .world) s asked (length out) .serial ≡ serialIn start (r .given))
@@ -190,7 +191,7 @@ pub record Promise (session keep : ℕ) (start : Serial) (r : Run) : Type 0 wher
   pub ordered : (s : Session) (asked : Serial) (out : Bytes) (c : Counts) → asked .0 < 2 ^ 32 → queriedIn (r .world) s asked (length out) .answer ≡ Served c →
       (standing asked (serialIn start (r .given)) ≡ Equal) ⊎ (standing asked (serialIn start (r .given)) ≡ Before)
   -- so one that is unordered with the newest is refused with 6
-  pub unordered : (s : Session) (asked : Serial) (out : Bytes) → asked .0 < 2 ^ 32 → s .0 ≡ session % 65_536 →
+  pub unordered : (s : Session) (asked : Serial) (out : Bytes) → asked .0 < 2 ^ 32 → s .0 ≡ sessionOf session .0 →
       standing asked (serialIn start (r .given)) ≡ Unordered → refusedAs (replyOf (r .world) (query s asked out)) ≡ refusal 6 0 0
   -- the full answer names the 16-bit session and F too, with the current snapshot; so does the notice; the mark says whether one was accepted
   pub whole : replyOf (r .world) full ≡ fully (record { session = sessionOf session; serial = serialIn start (r .given); answer = Held (length (current (r .world))) })

@@ -40,13 +40,13 @@ passes true r = Yes
 passes false r = No r
 
 -- 5, then 6
-abbrev pub asksOf : History → Session → Serial → Admitted
-asksOf h session asked =
+abbrev pub askAdmitted : History → Session → Serial → Admitted
+askAdmitted h session asked =
     andThen (passes (isSession h session) OtherSession) (passes (isServed (h .start) (h .n) asked (distanceOf (h .newest) asked)) NotServed)
 
 -- 7, then 5 and 6
 abbrev pub queryAdmitted : History → Session → Serial → Bytes → Bytes → Admitted
-queryAdmitted h session asked snapshots deltas = andThen (passes (wellFormed h snapshots deltas) IllFormed) (asksOf h session asked)
+queryAdmitted h session asked snapshots deltas = andThen (passes (wellFormed h snapshots deltas) IllFormed) (askAdmitted h session asked)
 
 -- the last d deltas merged, earliest first; of none, the empty delta
 unfoldable pub mergedLast : ℕ → List Bytes → Bytes

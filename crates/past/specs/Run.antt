@@ -119,8 +119,8 @@ refusedAs reply = numbered (refusalIn reply)
 abbrev pub refusal : ℕ → ℕ → ℕ → Option Values
 refusal number argument offset = some (record { number = number; argument = argument; offset = offset })
 
--- a world, and the snapshots that were accepted so far, oldest first, without those that changed nothing
-pub record Run : Type 0 where
+-- where a run has come: a world, and the snapshots that were accepted so far, oldest first, without those that changed nothing
+pub record Reached : Type 0 where
   pub world : World
   pub given : List Bytes
 
@@ -137,18 +137,18 @@ givenAfter w full given = given
 givenAfter w notify given = given
 givenAfter w ready given = given
 
-abbrev pub onward : Run → Call → Run
+abbrev pub onward : Reached → Call → Reached
 onward r c = record { world = stepOf (r .world) c; given = givenAfter (r .world) c (r .given) }
 
 -- a fresh history, lent these stores
-abbrev pub startOf : ℕ → ℕ → Serial → Bytes → Bytes → Run
+abbrev pub startOf : ℕ → ℕ → Serial → Bytes → Bytes → Reached
 startOf session keep start snapshots deltas = record {
   world = record { history = createOf session keep start snapshots deltas .history; snapshots = snapshots; deltas = deltas };
   given = [];
 }
 
 -- the calls, one after the other
-abbrev pub runOf : Run → List Call → Run
+abbrev pub runOf : Reached → List Call → Reached
 runOf = foldl onward
 
 -- what stands later, or else this

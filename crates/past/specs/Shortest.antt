@@ -11,7 +11,7 @@ use Rattle.payload.specs.Content.{Bytes}
 use Rattle.item.specs.declared.sink.Counts.{Counts}
 use Rattle.delta.specs.Shortest.{LeadsTo, NoLonger, Balance}
 use Rattle.past.specs.declared.query.Answer.the-variants.{Served}
-use Rattle.past.specs.Run.{Run, carried}
+use Rattle.past.specs.Run.{Reached, carried}
 use Rattle.past.specs.Promise.{queriedIn, writtenIn, current}
 
 pub record ShortestHome (start : Serial) (given : List Bytes) (now : Bytes) (asked : Serial) (answer : Bytes) : Type 0 where
@@ -25,7 +25,7 @@ pub record ShortestHome (start : Serial) (given : List Bytes) (now : Bytes) (ask
   pub balance : Balance base answer now
 
 -- once a first snapshot is accepted, each served query leaves such an answer in its output
-pub record Shortest (start : Serial) (r : Run) : Type 0 where
+pub record Shortest (start : Serial) (r : Reached) : Type 0 where
   pub home : (s : Session) (asked : Serial) (out : Bytes) (c : Counts) → asked .0 < 2 ^ 32 → ¬ (r .given ≡ []) →
       queriedIn (r .world) s asked (length out) .answer ≡ Served c →
       ShortestHome start (r .given) (current (r .world)) asked (writtenIn (r .world) s asked out c)

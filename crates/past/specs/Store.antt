@@ -1,7 +1,9 @@
 -- What a history holds in its two lent stores: from offset 0, without gaps.
 use Prim.Native.Nat.{ℕ, _+_, _-_}
 use mathlib.Core.List.{List, [], _∷_, _++_, map}
+use mathlib.Core.Bool.{true}
 use lib.ListN.{length, take, drop, replicate}
+use Rattle.serial.specs.declared.Serial.{Serial}
 use Rattle.payload.specs.Content.{Bytes}
 use Rattle.past.specs.declared.state.History.{History}
 
@@ -36,6 +38,20 @@ heldDeltas h deltas = cuts (heldLengths h) deltas
 abbrev pub lengthsOf : List Bytes → List ℕ
 lengthsOf ds = map length ds ++ replicate (64 - length ds) 0
 
--- a store that holds s afterwards: its bytes past them stay as they were
-abbrev pub storeAfter : Bytes → Bytes → Bytes
-storeAfter s store = s ++ drop (length s) store
+-- an active history of the same session, keep and start serial, at this serial, by what it holds: n deltas of these lengths,
+-- and a snapshot of this length
+abbrev pub stateWith : History → Serial → ℕ → ℕ → List ℕ → History
+stateWith h newest n snapshot lengths = record {
+  session = h .session;
+  keep = h .keep;
+  active = true;
+  newest = newest;
+  start = h .start;
+  n = n;
+  snapshot = snapshot;
+  deltas = lengths;
+}
+
+-- the same by the snapshot and the deltas themselves
+abbrev pub holdingOf : History → Serial → Bytes → List Bytes → History
+holdingOf h newest s ds = stateWith h newest (length ds) (length s) (lengthsOf ds)

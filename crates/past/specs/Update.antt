@@ -1,7 +1,7 @@
 -- An update with a new snapshot.
 use Prim.Native.Nat.{ℕ}
 use mathlib.Core.List.{List, [], _∷_, _++_, map}
-use mathlib.Core.Bool.{true, cond, _&&_}
+use mathlib.Core.Bool.{cond, _&&_}
 use lib.Dec.{leb, eqb}
 use lib.ListN.{length, drop}
 use Rattle.serial.specs.Serial.{nextOf}
@@ -16,7 +16,8 @@ use Rattle.delta.specs.Answer.{differenceOf, countsOf}
 use Rattle.past.specs.declared.state.History.{History}
 use Rattle.past.specs.declared.update.Update.the-variants.{First, Unchanged, Changed, Refused}
 use Rattle.past.specs.declared.update.Updated.{Updated}
-use Rattle.past.specs.Store.{total, joined, heldSnapshot, heldDeltas, lengthsOf, storeAfter}
+use Rattle.past.specs.Store.{total, joined, heldSnapshot, heldDeltas, holdingOf}
+use Rattle.payload.specs.Written.{writtenOver}
 use Rattle.past.specs.WellFormed.{wellFormed}
 
 -- what an update does: it is refused, is the first, changes nothing, or adds a delta
@@ -58,29 +59,11 @@ stepFor h new snapshots deltas =
 
 -- the new snapshot is current, and the serial stays
 abbrev pub firstState : History → Bytes → History
-firstState h new = record {
-  session = h .session;
-  keep = h .keep;
-  active = true;
-  newest = h .newest;
-  start = h .start;
-  n = 0;
-  snapshot = length new;
-  deltas = lengthsOf [];
-}
+firstState h new = holdingOf h (h .newest) new []
 
 -- the new snapshot is current, these deltas are held, and the serial is the one after
 abbrev pub nextState : History → Bytes → List Bytes → History
-nextState h new ds = record {
-  session = h .session;
-  keep = h .keep;
-  active = true;
-  newest = nextOf (h .newest);
-  start = h .start;
-  n = length ds;
-  snapshot = length new;
-  deltas = lengthsOf ds;
-}
+nextState h new ds = holdingOf h (nextOf (h .newest)) new ds
 
 abbrev pub updateAt : Step → History → Bytes → Bytes → Updated
 updateAt (refuse r) h new deltas = record { answer = Refused r; history = h }
@@ -95,9 +78,9 @@ updateOf h new snapshots deltas = updateAt (stepFor h new snapshots deltas) h ne
 -- the snapshot store afterwards
 abbrev pub snapshotsAt : Step → Bytes → Bytes → Bytes
 snapshotsAt (refuse r) new snapshots = snapshots
-snapshotsAt first new snapshots = storeAfter new snapshots
+snapshotsAt first new snapshots = writtenOver new snapshots
 snapshotsAt unchanged new snapshots = snapshots
-snapshotsAt (add d) new snapshots = storeAfter new snapshots
+snapshotsAt (add d) new snapshots = writtenOver new snapshots
 
 unfoldable pub updateSnapshots : History → Bytes → Bytes → Bytes → Bytes
 updateSnapshots h new snapshots deltas = snapshotsAt (stepFor h new snapshots deltas) new snapshots
@@ -107,7 +90,7 @@ abbrev pub deltasAt : Step → History → Bytes → Bytes
 deltasAt (refuse r) h deltas = deltas
 deltasAt first h deltas = deltas
 deltasAt unchanged h deltas = deltas
-deltasAt (add d) h deltas = storeAfter (joined (deltasWith h deltas d)) deltas
+deltasAt (add d) h deltas = writtenOver (joined (deltasWith h deltas d)) deltas
 
 unfoldable pub updateDeltas : History → Bytes → Bytes → Bytes → Bytes
 updateDeltas h new snapshots deltas = deltasAt (stepFor h new snapshots deltas) h deltas

@@ -16,7 +16,7 @@ use Rattle.field.specs.Cells.{Cell}
 use Rattle.field.specs.Run.{AllBytes}
 use Rattle.field.proofs.Sizes.{both, aspa-parts, UpdateParts, update-parts}
 use Rattle.payload.specs.Content.{Bytes, countOf, entryOf, cellFor}
-use Rattle.payload.specs.Valid.{ValidValue, ValidChange, Valid, origin, routerKey, aspa, announced, withdrawn, updated}
+use Rattle.payload.specs.Valid.{ValidValue, ValidChange, Valid, origin, routerKey, aspa, validAnnounce, validWithdraw, validUpdate}
 use Rattle.payload.proofs.Known as known
 use Rattle.payload.proofs.Known.{Known}
 
@@ -45,7 +45,7 @@ module _ (b : Bytes) (h : goodUpdate b ≡ true) where
       let p = parts in
       let q = both (sensibleProviders (take 4 b) (formerOf b)) _ z in
       let k : length (take 4 b) ≡ 4 = simp length-take (omega (arith, p .head)) in
-      updated (aspa k (p .former) (q .0)) (aspa k (p .new) (q .1))
+      validUpdate (aspa k (p .former) (q .0)) (aspa k (p .new) (q .1))
 
   former-length : length (formerOf b) ≡ formerSize b
   former-length = simp (length-take, length-drop) (omega (arith, parts .head))
@@ -76,12 +76,12 @@ unfolding goodBody sensible tagOf kindOf keyOf
 valid-known Snapshot tag b known.origin h z = origin h
 valid-known Snapshot tag b known.routerKey h z = routerKey h
 valid-known Snapshot tag b known.aspa h z = aspa-valid b h z
-valid-known Delta tag b known.announcedOrigin h z = announced (origin h)
-valid-known Delta tag b known.withdrawnOrigin h z = withdrawn (origin h)
-valid-known Delta tag b known.announcedKey h z = announced (routerKey h)
-valid-known Delta tag b known.withdrawnKey h z = withdrawn (routerKey h)
-valid-known Delta tag b known.announcedAspa h z = announced (aspa-valid b h z)
-valid-known Delta tag b known.withdrawnAspa h z = withdrawn (aspa-valid b h z)
+valid-known Delta tag b known.announcedOrigin h z = validAnnounce (origin h)
+valid-known Delta tag b known.withdrawnOrigin h z = validWithdraw (origin h)
+valid-known Delta tag b known.announcedKey h z = validAnnounce (routerKey h)
+valid-known Delta tag b known.withdrawnKey h z = validWithdraw (routerKey h)
+valid-known Delta tag b known.announcedAspa h z = validAnnounce (aspa-valid b h z)
+valid-known Delta tag b known.withdrawnAspa h z = validWithdraw (aspa-valid b h z)
 valid-known Delta tag b known.updatedAspa h z = update-valid b h z
 
 pub says-valid : (form : Form) (tag : ℕ) (b : Bytes) → goodBody form tag b ≡ true → sensible form tag b ≡ true → Valid form (entryOf form (cell tag b))

@@ -18,7 +18,7 @@ use Rattle.change.specs.Application.{applyAt, apply}
 use Rattle.change.proofs.Whole.{diff-sorted, merge-sorted, apply-sorted}
 use Rattle.field.specs.declared.tag.Form.the-variants.{Snapshot, Delta}
 use Rattle.payload.specs.Content.{Bytes}
-use Rattle.payload.specs.Valid.{ValidValue, ValidChange, IsMap, origin, routerKey, aspa, announced, withdrawn, updated}
+use Rattle.payload.specs.Valid.{ValidValue, ValidChange, IsMap, origin, routerKey, aspa, validAnnounce, validWithdraw, validUpdate}
 
 -- a property of what stands at a key, if anything does
 abbrev At : {K C : Type 0} → (K → C → Type 0) → K → Option C → Type 0
@@ -78,7 +78,7 @@ update-valid : (k p n : Bytes) → ¬ (p ≡ n) → ValidValue k p → ValidValu
 update-valid k p n d g h = go (value-kind g) (value-kind h)
   where
     aspa-key : (c : Bytes) → k ≡ 3 ∷ c → ValidChange k (update p n)
-    aspa-key c e = rw e (updated (rw e at g) (rw e at h))
+    aspa-key c e = rw e (validUpdate (rw e at g) (rw e at h))
 
     go : (p ≡ []) ⊎ ((c : Bytes) × (k ≡ 3 ∷ c)) → (n ≡ []) ⊎ ((c : Bytes) × (k ≡ 3 ∷ c)) → ValidChange k (update p n)
     go (inl a) (inl b) = absurd (d (cc))
@@ -98,25 +98,25 @@ replace-valid k p n g h = go (bytes p n) refl
 
 -- the new value of a change, and the former one
 table-valid : (k : Bytes) (c d : Change Bytes) → ValidChange k c → ValidChange k d → At ValidChange k (table bytes c d)
-table-valid k c d (announced g) (announced h) = announced h
-table-valid k c d (announced g) (withdrawn h) = tt
-table-valid k c d (announced g) (updated h i) = announced i
-table-valid k c d (withdrawn g) (announced h) = replace-valid k _ _ g h
-table-valid k c d (withdrawn g) (withdrawn h) = withdrawn g
-table-valid k c d (withdrawn g) (updated h i) = replace-valid k _ _ g i
-table-valid k c d (updated g h) (announced i) = updated g i
-table-valid k c d (updated g h) (withdrawn i) = withdrawn g
-table-valid k c d (updated g h) (updated i j) = replace-valid k _ _ g j
+table-valid k c d (validAnnounce g) (validAnnounce h) = validAnnounce h
+table-valid k c d (validAnnounce g) (validWithdraw h) = tt
+table-valid k c d (validAnnounce g) (validUpdate h i) = validAnnounce i
+table-valid k c d (validWithdraw g) (validAnnounce h) = replace-valid k _ _ g h
+table-valid k c d (validWithdraw g) (validWithdraw h) = validWithdraw g
+table-valid k c d (validWithdraw g) (validUpdate h i) = replace-valid k _ _ g i
+table-valid k c d (validUpdate g h) (validAnnounce i) = validUpdate g i
+table-valid k c d (validUpdate g h) (validWithdraw i) = validWithdraw g
+table-valid k c d (validUpdate g h) (validUpdate i j) = replace-valid k _ _ g j
 
 apply-valid : (k v : Bytes) (c : Change Bytes) → ValidValue k v → ValidChange k c → At ValidValue k (applyAt (some v) (some c))
-apply-valid k v c g (announced h) = h
-apply-valid k v c g (withdrawn h) = tt
-apply-valid k v c g (updated h i) = i
+apply-valid k v c g (validAnnounce h) = h
+apply-valid k v c g (validWithdraw h) = tt
+apply-valid k v c g (validUpdate h i) = i
 
 apply-new : (k : Bytes) (c : Change Bytes) → ValidChange k c → At ValidValue k (applyAt none (some c))
-apply-new k c (announced h) = h
-apply-new k c (withdrawn h) = tt
-apply-new k c (updated h i) = i
+apply-new k c (validAnnounce h) = h
+apply-new k c (validWithdraw h) = tt
+apply-new k c (validUpdate h i) = i
 
 -- ---- whole maps
 
@@ -124,7 +124,7 @@ apply-new k c (updated h i) = i
 pub diff-map : (A B : change.Snapshot Bytes Bytes) → IsMap Snapshot A → IsMap Snapshot B → IsMap Delta (diff bytes bytes A B)
 diff-map A B m n = record {
   sorted = diff-sorted strings strings A B (m .sorted) (n .sorted);
-  valid = walk-all strings (diffAt bytes) ValidValue ValidValue ValidChange (λ k a g. withdrawn g) (λ k b h. announced h) replace-valid A B (m .valid) (n .valid);
+  valid = walk-all strings (diffAt bytes) ValidValue ValidValue ValidChange (λ k a g. validWithdraw g) (λ k b h. validAnnounce h) replace-valid A B (m .valid) (n .valid);
 }
 
 -- the merge of two deltas is one

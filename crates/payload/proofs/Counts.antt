@@ -16,7 +16,7 @@ use Rattle.field.specs.Run.{AllBytes}
 use Rattle.field.proofs.Encode.{cells-encode}
 use Rattle.payload.specs.Content.{Bytes, digit, cellFor}
 use Rattle.payload.specs.Payload.{encode, changes}
-use Rattle.payload.specs.Count.{isAnnounced, isWithdrawn, countTags, announced, withdrawn, announces, withdraws, sumOf}
+use Rattle.payload.specs.Count.{isAnnounced, isWithdrawn, countTags, announcedIn, withdrawnIn, announces, withdraws, sumOf}
 use Rattle.payload.proofs.Faithful.{faithful}
 
 -- the last hex digit of a change's tag
@@ -46,16 +46,16 @@ agree-withdrawn k (withdraw p) = rw (last-digit k 2 (inr (inl refl)))
 agree-withdrawn k (update p n) = rw (last-digit k 3 (inr (inr refl)))
 
 -- of the bytes of changes
-pub announced-encode : (D : change.Delta Bytes Bytes) → announced (encode Delta D) ≡ sumOf announces D
+pub announced-encode : (D : change.Delta Bytes Bytes) → announcedIn (encode Delta D) ≡ sumOf announces D
 announced-encode D = count-encode isAnnounced announces agree-announced D
 
-pub withdrawn-encode : (D : change.Delta Bytes Bytes) → withdrawn (encode Delta D) ≡ sumOf withdraws D
+pub withdrawn-encode : (D : change.Delta Bytes Bytes) → withdrawnIn (encode Delta D) ≡ sumOf withdraws D
 withdrawn-encode D = count-encode isWithdrawn withdraws agree-withdrawn D
 
 -- of a good delta
 module _ (s : Bytes) (o : AllBytes s) (e : verdict Delta s ≡ Fine) where
-  pub announced-changes : announced s ≡ sumOf announces (changes s)
-  announced-changes = ap announced (sym (faithful Delta .bytes-back s o e)) ∙ announced-encode (changes s)
+  pub announced-changes : announcedIn s ≡ sumOf announces (changes s)
+  announced-changes = ap announcedIn (sym (faithful Delta .bytes-back s o e)) ∙ announced-encode (changes s)
 
-  pub withdrawn-changes : withdrawn s ≡ sumOf withdraws (changes s)
-  withdrawn-changes = ap withdrawn (sym (faithful Delta .bytes-back s o e)) ∙ withdrawn-encode (changes s)
+  pub withdrawn-changes : withdrawnIn s ≡ sumOf withdraws (changes s)
+  withdrawn-changes = ap withdrawnIn (sym (faithful Delta .bytes-back s o e)) ∙ withdrawn-encode (changes s)

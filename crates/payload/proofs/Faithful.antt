@@ -22,7 +22,7 @@ use Rattle.field.specs.Run.{AllBytes, Run, done, more}
 use Rattle.field.proofs.Run.{fine-run, cells-end, cells-more}
 use Rattle.field.proofs.Encode.{Ascent, none, next, ascent-fine, cells-encode, encode-cells, field-front, rest-bytes}
 use Rattle.payload.specs.Content.{Bytes, Content, entryOf, cellFor}
-use Rattle.payload.specs.Valid.{ValidValue, ValidChange, Valid, IsMap, origin, routerKey, aspa, announced, withdrawn, updated}
+use Rattle.payload.specs.Valid.{ValidValue, ValidChange, Valid, IsMap, origin, routerKey, aspa, validAnnounce, validWithdraw, validUpdate}
 use Rattle.payload.specs.Payload.{entries, encode}
 use Rattle.payload.proofs.Back.{says-valid, says-back}
 use Rattle.payload.proofs.Forth.{Good, good}
@@ -76,9 +76,9 @@ lowest-value (routerKey h) = refl
 lowest-value (aspa e h z) = refl
 
 lowest-change : {k : Bytes} {c : Change Bytes} → ValidChange k c → bytes (0 ∷ []) k ≡ Less
-lowest-change (announced h) = lowest-value h
-lowest-change (withdrawn h) = lowest-value h
-lowest-change (updated g h) = refl
+lowest-change (validAnnounce h) = lowest-value h
+lowest-change (validWithdraw h) = lowest-value h
+lowest-change (validUpdate g h) = refl
 
 lowest : (form : Form) (x : Item Bytes (Content form)) → Valid form x → bytes (0 ∷ []) (x .key) ≡ Less
 lowest Snapshot x h = lowest-value h
@@ -116,7 +116,7 @@ unfolding encode entries
 faithful form =
     record {
       map-of = λ s e. let r = read form (fine-run form s e) in record { sorted = r .sorted; valid = r .valid };
-      bytes-back = λ s o e. ap run.encode (cells-back form (fine-run form s e) o) ∙ encode-cells form (fine-run form s e) o;
+      bytes-back = λ s o e. ap run.cellBytes (cells-back form (fine-run form s e) o) ∙ encode-cells form (fine-run form s e) o;
       good-bytes = λ xs m. ascent-fine form (map (cellFor form) xs) (ascent-start form xs m);
       map-back = λ xs m. ap (map (entryOf form)) (cells-encode (map (cellFor form) xs)) ∙ said form xs (m .valid);
     }

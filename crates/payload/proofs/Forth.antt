@@ -16,7 +16,7 @@ use Rattle.field.specs.Key.{keyOf}
 use Rattle.field.specs.Aspa.{goodAspa, goodUpdate, goodProviders, formerSize, formerOf, newOf, sensibleProviders, sensibleAspa, sensibleUpdate}
 use Rattle.field.proofs.Sizes.{providers-size}
 use Rattle.payload.specs.Content.{Bytes, Content, countOf, entryOf, cellFor}
-use Rattle.payload.specs.Valid.{ValidValue, ValidChange, Valid, origin, routerKey, aspa, announced, withdrawn, updated}
+use Rattle.payload.specs.Valid.{ValidValue, ValidChange, Valid, origin, routerKey, aspa, validAnnounce, validWithdraw, validUpdate}
 
 abbrev item : {A : Type 0} → Bytes → A → Item Bytes A
 item k c = record { key = k; val = c }
@@ -118,9 +118,9 @@ good-updated k p n e g h y z = go k (is-four k e) y z
     }
 
 good-change : {k : Bytes} {c : Change Bytes} → ValidChange k c → Good Delta k c
-good-change (announced h) = good-announce h
-good-change (withdrawn h) = good-withdraw h
-good-change (updated {k = k} {p = p} {n = n} g h) = good-updated k p n (providers g .0) (providers g .1) (providers h .1) (providers g .2) (providers h .2)
+good-change (validAnnounce h) = good-announce h
+good-change (validWithdraw h) = good-withdraw h
+good-change (validUpdate {k = k} {p = p} {n = n} g h) = good-updated k p n (providers g .0) (providers g .1) (providers h .1) (providers g .2) (providers h .2)
 
 pub good : (form : Form) (x : Item Bytes (Content form)) → Valid form x → Good form (x .key) (x .val)
 good Snapshot x h = good-value h

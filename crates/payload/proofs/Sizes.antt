@@ -25,12 +25,12 @@ width : (form : Form) → Item Bytes (Content form) → ℕ
 width form x = 3 + length (bodyFor form (drop 1 (x .key)) (x .val))
 
 nil-length : (form : Form) → length (encode form []) ≡ 0
-unfolding encode run.encode
+unfolding encode run.cellBytes
 nil-length form = refl
 
 cons-length : (form : Form) (x : Item Bytes (Content form)) (xs : List (Item Bytes (Content form))) →
     length (encode form (x ∷ xs)) ≡ width form x + length (encode form xs)
-unfolding encode run.encode run.field width
+unfolding encode run.cellBytes run.field width
 cons-length form x xs =
     omega (arith, length-append (bodyFor form (drop 1 (x .key)) (x .val)) (encode form xs))
 

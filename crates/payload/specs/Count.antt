@@ -20,11 +20,11 @@ abbrev pub countTags : (ℕ → Bool) → List Cell → ℕ
 countTags test [] = 0
 countTags test (c ∷ cs) = cond (test (c .tag)) 1 0 + countTags test cs
 
-abbrev pub announced : Bytes → ℕ
-announced s = countTags isAnnounced (cells s)
+abbrev pub announcedIn : Bytes → ℕ
+announcedIn s = countTags isAnnounced (cells s)
 
-abbrev pub withdrawn : Bytes → ℕ
-withdrawn s = countTags isWithdrawn (cells s)
+abbrev pub withdrawnIn : Bytes → ℕ
+withdrawnIn s = countTags isWithdrawn (cells s)
 
 -- how many changes announce (an update does) and withdraw
 abbrev pub announces : Change Bytes → ℕ

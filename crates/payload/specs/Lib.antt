@@ -3,3 +3,4 @@ pub mod Valid
 pub mod Payload
 pub mod Count
 pub mod Limit
+pub mod Written

@@ -13,7 +13,7 @@ entries form s = map (entryOf form) (run.cells s)
 
 -- the fields that say these items, one behind the other
 unfoldable pub encode : (form : Form) → List (Item Bytes (Content form)) → Bytes
-encode form xs = run.encode (map (cellFor form) xs)
+encode form xs = run.cellBytes (map (cellFor form) xs)
 
 -- the items of a snapshot, the changes of a delta
 abbrev pub items : Bytes → change.Snapshot Bytes Bytes

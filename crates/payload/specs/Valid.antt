@@ -21,9 +21,9 @@ pub data ValidValue : Bytes → Bytes → Type 0 where
 
 -- a key and a change that it can have: only ASPAs are updated
 pub data ValidChange : Bytes → Change Bytes → Type 0 where
-  announced : {k n : Bytes} → ValidValue k n → ValidChange k (announce n)
-  withdrawn : {k p : Bytes} → ValidValue k p → ValidChange k (withdraw p)
-  updated : {k p n : Bytes} → ValidValue (3 ∷ k) p → ValidValue (3 ∷ k) n → ValidChange (3 ∷ k) (update p n)
+  validAnnounce : {k n : Bytes} → ValidValue k n → ValidChange k (announce n)
+  validWithdraw : {k p : Bytes} → ValidValue k p → ValidChange k (withdraw p)
+  validUpdate : {k p n : Bytes} → ValidValue (3 ∷ k) p → ValidValue (3 ∷ k) n → ValidChange (3 ∷ k) (update p n)
 
 abbrev pub ValidContent : (form : Form) → Bytes → Content form → Type 0
 ValidContent Snapshot k v = ValidValue k v

@@ -13,10 +13,11 @@ use Rattle.field.specs.Places.{fieldAt}
 use Rattle.field.proofs.Fields.{cut-at, body-within, field-long}
 use Rattle.field.proofs.Run.{cells-at-cut}
 use Rattle.field.proofs.Walk.{good-end, good-cells}
-use Rattle.payload.specs.Count.{isAnnounced, isWithdrawn, announced, withdrawn}
+use Rattle.payload.specs.Count.{isAnnounced, isWithdrawn, announcedIn, withdrawnIn}
 use Rattle.reader.specs.declared.count.Tally.{Tally}
 use Rattle.reader.specs.Step.{behind}
-use Rattle.reader.specs.Count.{announcesTag, withdrawsTag, Room, plusField, isOver, tallyOf}
+use Rattle.reader.specs.Count.{tallyOf}
+use Rattle.reader.specs.Counting.{announcesTag, withdrawsTag, Countable, plusField, isOver}
 
 -- ---- one tag
 
@@ -42,7 +43,7 @@ at-most-one false = omega arith
 
 -- ---- one field
 
-module _ (c : Tally) (h : Room c) (tag n : ℕ) where
+module _ (c : Tally) (h : Countable c) (tag n : ℕ) where
   pub room-announced : n ≡ announcesTag tag → c .announced + n < 2 ^ 64
   room-announced e = let l : announcesTag tag ≤ 1 = at-most-one (isAnnounced tag) in let k = h .announced in omega arith
 
@@ -65,8 +66,8 @@ pub ruleset counting = (announces-one, announces-three, announces-not, withdraws
 
 -- c are the counts of the fields before `at`
 pub record Counted (s : List ℕ) (at : ℕ) (c : Tally) : Type 0 where
-  pub announced : c .announced + announced (drop at s) ≡ announced s
-  pub withdrawn : c .withdrawn + withdrawn (drop at s) ≡ withdrawn s
+  pub announced : c .announced + announcedIn (drop at s) ≡ announcedIn s
+  pub withdrawn : c .withdrawn + withdrawnIn (drop at s) ≡ withdrawnIn s
   pub few : c .announced ≤ at
   pub fewer : c .withdrawn ≤ at
 
@@ -94,10 +95,10 @@ module _ (s : List ℕ) (at : ℕ) (f : Field) (e : f ≡ fieldAt s at) where
     pub counted-all : isOver f ≡ true → c ≡ tallyOf s
     counted-all l =
         let n : cells (drop at s) ≡ [] = no-cells l in
-        let p : c .announced + 0 ≡ announced s = rw n at (h .announced) in
-        let q : c .withdrawn + 0 ≡ withdrawn s = rw n at (h .withdrawn) in
-        let p′ : c .announced ≡ announced s = omega arith in
-        let q′ : c .withdrawn ≡ withdrawn s = omega arith in
+        let p : c .announced + 0 ≡ announcedIn s = rw n at (h .announced) in
+        let q : c .withdrawn + 0 ≡ withdrawnIn s = rw n at (h .withdrawn) in
+        let p′ : c .announced ≡ announcedIn s = omega arith in
+        let q′ : c .withdrawn ≡ withdrawnIn s = omega arith in
         λ i. record { announced = p′ i; withdrawn = q′ i }
 
     pub counted-more : isOver f ≡ false → More s at f c
@@ -112,8 +113,8 @@ module _ (s : List ℕ) (at : ℕ) (f : Field) (e : f ≡ fieldAt s at) where
             let w = good-cells s at f e tag from to p in
             let a : announcesTag tag ≤ 1 = at-most-one (isAnnounced tag) in
             let b : withdrawsTag tag ≤ 1 = at-most-one (isWithdrawn tag) in
-            let x : c .announced + (announcesTag tag + announced (drop to s)) ≡ announced s = rw w at (h .announced) in
-            let y : c .withdrawn + (withdrawsTag tag + withdrawn (drop to s)) ≡ withdrawn s = rw w at (h .withdrawn) in
+            let x : c .announced + (announcesTag tag + announcedIn (drop to s)) ≡ announcedIn s = rw w at (h .announced) in
+            let y : c .withdrawn + (withdrawsTag tag + withdrawnIn (drop to s)) ≡ withdrawnIn s = rw w at (h .withdrawn) in
             let i = h .few in
             let j = h .fewer in
             rw p (record {

@@ -24,7 +24,7 @@ use Rattle.payload.proofs.Faithful.{faithful}
 use Rattle.reader.specs.declared.DeltaReader.{DeltaReader}
 use Rattle.reader.specs.Step.{start}
 use Rattle.reader.specs.Stepping.{answers, steps, wholes}
-use Rattle.reader.specs.Reading.{said, size, Reads}
+use Rattle.reader.specs.Reading.{said, size, ReadsAll}
 
 none-left : (cs : List Cell) → length cs ≤ 0 → cs ≡ []
 none-left [] h = refl
@@ -102,5 +102,5 @@ module _ (d : RefT Bytes) where
     ends = steps-from (size d) 0 (omega arith) (good-start Delta s good) (sym sized)
 
     -- the reader of a good delta answers its items from first to last, once each, and then its end
-    pub reads : Reads d
+    pub reads : ReadsAll d
     reads = record { items = items; once = subst (IsMap Delta) (sym items) (faithful Delta .map-of s good); whole = ends; then = λ n. rw ends (stays n) }

@@ -21,7 +21,7 @@ said n d = map (entryOf Delta) (wholes (now d) (answers n (start d)))
 abbrev pub size : RefT Bytes → ℕ
 size d = length (changes (now d))
 
-pub record Reads (d : RefT Bytes) : Type 0 where
+pub record ReadsAll (d : RefT Bytes) : Type 0 where
   -- as many calls as the delta has items answer its items, in order
   pub items : said (size d) d ≡ changes (now d)
   -- these are valid and ascend: none comes twice

@@ -3,7 +3,8 @@ use crate::new;
 use crate::next;
 use field::head::Field;
 ghost use mathlib.Core.Path.{_≡_};
-ghost use Rattle.reader.specs.Count.{isOver, announcesTag, withdrawsTag, Room, plusField, tallyOf};
+ghost use Rattle.reader.specs.Count.{tallyOf};
+ghost use Rattle.reader.specs.Counting.{isOver, announcesTag, withdrawsTag, Countable, plusField};
 
 pub struct Tally {
     pub announced: usize,
@@ -47,7 +48,7 @@ fn withdraws(tag: u8) -> usize
 
 // The counts with one field more.
 fn plus(tally: Tally, field: Field) -> Tally
-    requires { ⌜ Room tally ⌝ }
+    requires { ⌜ Countable tally ⌝ }
     ensures { λ r. ⌜ r ≡ plusField tally field ⌝ }
 {
     match field {

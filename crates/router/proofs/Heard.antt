@@ -19,7 +19,7 @@ use Rattle.field.specs.RouterKey.{goodRouterKey}
 use Rattle.field.specs.Run.{AllBytes}
 use Rattle.field.proofs.Sizes.{both}
 use Rattle.payload.specs.Content.{Bytes}
-use Rattle.payload.specs.Valid.{ValidValue, ValidChange, origin, routerKey, aspa, announced, withdrawn, updated}
+use Rattle.payload.specs.Valid.{ValidValue, ValidChange, origin, routerKey, aspa, validAnnounce, validWithdraw, validUpdate}
 use Rattle.item.proofs.Fronts.{drop-bytes, take-bytes}
 use Rattle.message.specs.declared.version.Version.{Version}
 use Rattle.message.specs.declared.version.Version.the-variants.{Rfc6810, Rfc8210}
@@ -130,13 +130,13 @@ unfolding messageOf
 part-is v x s = go (s .valid) (s .octets) (s .speaks)
   where
     go : {k : Bytes} {c : Change Bytes} → ValidChange k c → AllBytes k → speaks v (getD k 0 0) ≡ true → partOf (messageOf (flagsOf c) k) ≡ payload k c
-    go (announced (origin {k} g)) o e = origin-part 1 k g (λ i. o (suc i)) ∙ announced-part (1 ∷ k) (good-origin k g)
-    go (announced (routerKey {k} g)) o e = key-part 1 k ∙ announced-part (2 ∷ k) (good-key k g)
-    go (announced (aspa l p q)) o e = unsaid v e
-    go (withdrawn (origin {k} g)) o e = origin-part 0 k g (λ i. o (suc i)) ∙ withdrawn-part (1 ∷ k) (good-origin k g)
-    go (withdrawn (routerKey {k} g)) o e = key-part 0 k ∙ withdrawn-part (2 ∷ k) (good-key k g)
-    go (withdrawn (aspa l p q)) o e = unsaid v e
-    go (updated p n) o e = unsaid v e
+    go (validAnnounce (origin {k} g)) o e = origin-part 1 k g (λ i. o (suc i)) ∙ announced-part (1 ∷ k) (good-origin k g)
+    go (validAnnounce (routerKey {k} g)) o e = key-part 1 k ∙ announced-part (2 ∷ k) (good-key k g)
+    go (validAnnounce (aspa l p q)) o e = unsaid v e
+    go (validWithdraw (origin {k} g)) o e = origin-part 0 k g (λ i. o (suc i)) ∙ withdrawn-part (1 ∷ k) (good-origin k g)
+    go (validWithdraw (routerKey {k} g)) o e = key-part 0 k ∙ withdrawn-part (2 ∷ k) (good-key k g)
+    go (validWithdraw (aspa l p q)) o e = unsaid v e
+    go (validUpdate p n) o e = unsaid v e
 
 -- ---- it can be sent
 
@@ -161,13 +161,13 @@ unfolding messageOf
 sendable v x s = go (s .valid) (s .speaks)
   where
     go : {k : Bytes} {c : Change Bytes} → ValidChange k c → speaks v (getD k 0 0) ≡ true → Sendable v (messageOf (flagsOf c) k)
-    go (announced (origin {k} g)) e = origin-sendable v 1 k (origin-long k g)
-    go (announced (routerKey {k} g)) e = key-sendable v 1 k g e
-    go (announced (aspa l p q)) e = unsaid v e
-    go (withdrawn (origin {k} g)) e = origin-sendable v 0 k (origin-long k g)
-    go (withdrawn (routerKey {k} g)) e = key-sendable v 0 k g e
-    go (withdrawn (aspa l p q)) e = unsaid v e
-    go (updated p n) e = unsaid v e
+    go (validAnnounce (origin {k} g)) e = origin-sendable v 1 k (origin-long k g)
+    go (validAnnounce (routerKey {k} g)) e = key-sendable v 1 k g e
+    go (validAnnounce (aspa l p q)) e = unsaid v e
+    go (validWithdraw (origin {k} g)) e = origin-sendable v 0 k (origin-long k g)
+    go (validWithdraw (routerKey {k} g)) e = key-sendable v 0 k g e
+    go (validWithdraw (aspa l p q)) e = unsaid v e
+    go (validUpdate p n) e = unsaid v e
 
 -- ---- an answer
 

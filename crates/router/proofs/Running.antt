@@ -27,6 +27,7 @@ use Rattle.serial.proofs.Bounds.{intervals}
 use Rattle.field.specs.declared.tag.Form.the-variants.{Snapshot, Delta}
 use Rattle.field.specs.Cells as run
 use Rattle.payload.specs.Content.{Bytes}
+use Rattle.payload.specs.Written.{writtenOver}
 use Rattle.payload.specs.Payload.{entries, encode, items, changes}
 use Rattle.payload.specs.Valid.{IsMap}
 use Rattle.payload.proofs.Faithful.{faithful, entries-end}
@@ -47,7 +48,7 @@ use Rattle.past.specs.Store.{cuts, heldDeltas}
 use Rattle.past.specs.WellFormed.{wellFormed}
 use Rattle.past.specs.Query.{isServed, isSession, mergedLast, answerOf, queryOf, queryOut}
 use Rattle.past.specs.Full.{notifyOf}
-use Rattle.past.specs.Run.{World, Call, Reply, noticed, updated, queried, fully, isReady, Run, startOf, runOf, carried}
+use Rattle.past.specs.Run.{World, Call, Reply, noticed, updated, queried, fully, isReady, Reached, startOf, runOf, carried}
 use Rattle.past.specs.Promise.{serialIn, current, queriedIn, writtenIn, Promise, Leads}
 use Rattle.past.proofs.Lists.{all-map}
 use Rattle.past.proofs.Runs.{promise}
@@ -60,7 +61,7 @@ use Rattle.wire.specs.declared.sent.Reply.the-variants.{Data, Reset, Report}
 use Rattle.wire.specs.Answer.{Plan, refuse, aside, refusedWith, reportBytes, frameOf, answerBytes, tallyOf, sentAt, outAt, dataPlan, resetPlan, reportPlan, changesSince, queryPlan, allNew, fullPlan}
 use Rattle.router.specs.Send.{TimesFit}
 use Rattle.router.specs.Heard.{Spoken, toldFrom}
-use Rattle.router.specs.Promise.{Reads, LeadsOn, Home, queryIn, fullIn, written, Wire, EveryWire}
+use Rattle.router.specs.Promise.{HeardAs, LeadsOn, Home, queryIn, fullIn, written, Wire, EveryWire}
 use Rattle.router.proofs.Heard.{hear-answer, told-items}
 use Rattle.router.proofs.Routers.{router-takes, spoken-all}
 use Rattle.router.proofs.Octets.{item-bytes, diff-bytes}
@@ -76,7 +77,7 @@ module _ (v : Version) (f : Frame) (D : change.Delta Bytes Bytes) (out : Bytes) 
   data-written = go (leb (length whole) (length out))
     where
       go : (b : Bool) → (cond b (record { session = f .session; serial = f .serial; reply = Data (tallyOf v whole D) }) (refusedWith NoRoom)) .reply ≡ Data t →
-          take (t .len) (cond b (whole ++ drop (length whole) out) out) ≡ whole
+          take (t .len) (cond b (writtenOver whole out) out) ≡ whole
       go true h = let e : tallyOf v whole D ≡ t = cc in take-at whole (drop (length whole) out) (t .len) (ap (λ (x : Tally). x .len) e)
       go false h = absurd (let z : _≡_ {A = ℕ} 0 1 = cc in omega arith)
 
@@ -154,11 +155,11 @@ module _ (v : Version) (session : ℕ) (serial : Serial) (times : Timing) (bound
   said : All (Spoken v) (spoken v (diff bytes bytes A C))
   said = spoken-all v (diff bytes bytes A C) (map-d .valid) (diff-bytes A C (item-bytes base (gb .octets) (gb .fine)) (item-bytes now (gn .octets) (gn .fine)))
 
-  leads-on : LeadsOn v session serial times base now (pdus v (answer v (session % 65_536) (serial .0) (timingOf times) (diff bytes bytes A C)))
+  leads-on : LeadsOn v session serial times base now (pdus v (answer v (sessionOf session .0) (serial .0) (timingOf times) (diff bytes bytes A C)))
   leads-on = record {
     reads = record {
       told = toldFrom v 8 (spoken v (diff bytes bytes A C));
-      heard = hear-answer v (session % 65_536) (serial .0) (timingOf times) (omega arith) bound (times-fit v times) (diff bytes bytes A C) said;
+      heard = hear-answer v (sessionOf session .0) (serial .0) (timingOf times) (omega arith) bound (times-fit v times) (diff bytes bytes A C) said;
       items = told-items v 8 (spoken v (diff bytes bytes A C));
     };
     taken = router-takes v A (diff bytes bytes A C) (map-a .sorted) (map-d .sorted) (toldFrom v 8 (spoken v (diff bytes bytes A C))) (told-items v 8 (spoken v (diff bytes bytes A C)))
@@ -191,7 +192,7 @@ named (fully f) = record { 0 = 0 }
 named (noticed n) = n .session
 named (isReady active) = record { 0 = 0 }
 
-module _ (v : Version) (session keep : ℕ) (start : Serial) (r : Run) (p : Promise session keep start r) (goods : All GoodSnapshot (r .given)) (times : Timing) where
+module _ (v : Version) (session keep : ℕ) (start : Serial) (r : Reached) (p : Promise session keep start r) (goods : All GoodSnapshot (r .given)) (times : Timing) where
   abbrev w : World
   w = r .world
 
@@ -208,7 +209,7 @@ module _ (v : Version) (session keep : ℕ) (start : Serial) (r : Run) (p : Prom
   F-bound : F .0 < 2 ^ 32
   F-bound = omega arith
 
-  bytes-are : (D : change.Delta Bytes Bytes) → answerBytes v (frameOf h times) D ≡ pdus v (answer v (session % 65_536) (F .0) (timingOf times) D)
+  bytes-are : (D : change.Delta Bytes Bytes) → answerBytes v (frameOf h times) D ≡ pdus v (answer v (sessionOf session .0) (F .0) (timingOf times) D)
   bytes-are D = ap₂ (λ (s : Session) (n : Serial). pdus v (answer v (s .0) (n .0) (timingOf times) D)) own (p .serial)
 
   -- what a served query would have written as a delta
@@ -239,8 +240,8 @@ module _ (v : Version) (session keep : ℕ) (start : Serial) (r : Run) (p : Prom
       let gn : GoodSnapshot (current w) = good-current session keep start r p goods n in
       let d : changesSince h asked (w .deltas) ≡ diff bytes bytes (items (l .base)) (items (current w)) =
       since-is h asked (w .snapshots) (w .deltas) (l .base) (current w) (x .formed) gb gn (sym (left s asked (x .formed) (x .session) (x .served)) ∙ l .exact) in
-      let e : written (queryIn v w s asked times) out t ≡ pdus v (answer v (session % 65_536) (F .0) (timingOf times) (diff bytes bytes (items (l .base)) (items (current w)))) =
-      x .wrote ∙ bytes-are (changesSince h asked (w .deltas)) ∙ ap (λ (D : change.Delta Bytes Bytes). pdus v (answer v (session % 65_536) (F .0) (timingOf times) D)) d in
+      let e : written (queryIn v w s asked times) out t ≡ pdus v (answer v (sessionOf session .0) (F .0) (timingOf times) (diff bytes bytes (items (l .base)) (items (current w)))) =
+      x .wrote ∙ bytes-are (changesSince h asked (w .deltas)) ∙ ap (λ (D : change.Delta Bytes Bytes). pdus v (answer v (sessionOf session .0) (F .0) (timingOf times) D)) d in
       record { base = l .base; most-recent = l .most-recent; leads = rw e (leads-on v session F times F-bound (l .base) (current w) gb gn) }
 
   full-wrote : (out : Bytes) (t : Tally) → sentAt (fullIn v w times) (length out) .reply ≡ Data t →
@@ -254,16 +255,16 @@ module _ (v : Version) (session keep : ℕ) (start : Serial) (r : Run) (p : Prom
       go false q = refuse-no IllFormed (length out) t q
 
   nothing-good : GoodSnapshot []
-  unfolding encode run.encode
+  unfolding encode run.cellBytes
   nothing-good = record { octets = λ i. omega arith; fine = faithful Snapshot .good-bytes [] (record { sorted = tt; valid = tt }) }
 
   full-home : (out : Bytes) (t : Tally) → ¬ (r .given ≡ []) → sentAt (fullIn v w times) (length out) .reply ≡ Data t →
       LeadsOn v session F times [] (current w) (written (fullIn v w times) out t)
   full-home out t n q =
       let z : items [] ≡ [] = entries-end Snapshot in
-      let e : written (fullIn v w times) out t ≡ pdus v (answer v (session % 65_536) (F .0) (timingOf times) (diff bytes bytes (items []) (items (current w)))) =
+      let e : written (fullIn v w times) out t ≡ pdus v (answer v (sessionOf session .0) (F .0) (timingOf times) (diff bytes bytes (items []) (items (current w)))) =
       full-wrote out t q ∙ bytes-are (allNew (current w))
-      ∙ ap (λ (B : change.Snapshot Bytes Bytes). pdus v (answer v (session % 65_536) (F .0) (timingOf times) (diff bytes bytes B (items (current w))))) (sym z) in
+      ∙ ap (λ (B : change.Snapshot Bytes Bytes). pdus v (answer v (sessionOf session .0) (F .0) (timingOf times) (diff bytes bytes B (items (current w))))) (sym z) in
       rw e (leads-on v session F times F-bound [] (current w) nothing-good (good-current session keep start r p goods n))
 
 -- in any version, over every run of calls from a fresh history
@@ -273,7 +274,7 @@ wire v session keep start snapshots deltas bound done calls octets =
     (promise session keep start snapshots deltas bound done calls octets)
     (given-good (startOf session keep start snapshots deltas) calls octets tt)
   where
-    go : (r : Run) → Promise session keep start r → All GoodSnapshot (r .given) → Wire v session start r
+    go : (r : Reached) → Promise session keep start r → All GoodSnapshot (r .given) → Wire v session start r
     go r p g = record {
       query = λ s asked times out t. query-home v session keep start r p g times s asked out t;
       full = λ times out t. full-home v session keep start r p g times out t;

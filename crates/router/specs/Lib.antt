@@ -1,3 +1,4 @@
+pub mod Promise
+-- what only proofs name
 pub mod Send
 pub mod Heard
-pub mod Promise

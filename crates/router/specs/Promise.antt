@@ -10,6 +10,7 @@ use Rattle.change.specs.Difference.{Delta, diff}
 use Rattle.serial.specs.declared.Serial.{Serial}
 use Rattle.serial.specs.declared.Session.{Session}
 use Rattle.serial.specs.declared.timing.Timing.{Timing}
+use Rattle.serial.specs.Serial.{sessionOf}
 use Rattle.serial.specs.Timing.{timingOf}
 use Rattle.payload.specs.Content.{Bytes}
 use Rattle.payload.specs.Payload as payload
@@ -21,21 +22,21 @@ use Rattle.message.specs.Take as router
 use Rattle.message.specs.Take.{all, asItem}
 use Rattle.past.specs.declared.create.Creation.the-variants.{Done}
 use Rattle.past.specs.Create.{createOf}
-use Rattle.past.specs.Run.{World, Call, Run, startOf, runOf, carried}
+use Rattle.past.specs.Run.{World, Call, Reached, startOf, runOf, carried}
 use Rattle.past.specs.Promise.{OfBytes, serialIn, current}
 use Rattle.wire.specs.declared.tally.Tally.{Tally}
 use Rattle.wire.specs.declared.sent.Reply.the-variants.{Data}
 use Rattle.wire.specs.Answer.{Plan, sentAt, outAt, queryPlan, fullPlan}
 
 -- what is read: these items as far as the version speaks of their kinds, in order, each once; then the session, the serial and what is told of the times
-pub record Reads (v : Version) (session : ℕ) (serial : Serial) (times : Timing) (D : Delta Bytes Bytes) (messages : Bytes) : Type 0 where
+pub record HeardAs (v : Version) (session : ℕ) (serial : Serial) (times : Timing) (D : Delta Bytes Bytes) (messages : Bytes) : Type 0 where
   pub told : List Told
-  pub heard : hear v messages ≡ record { told = told; stop = ended (session % 65_536) (serial .0) (timesTold v (timingOf times)) }
+  pub heard : hear v messages ≡ record { told = told; stop = ended (sessionOf session .0) (serial .0) (timesTold v (timingOf times)) }
   pub items : map asItem told ≡ spoken v D
 
 -- and that, taken one after another on what the version speaks of one snapshot, leaves what it speaks of another
 pub record LeadsOn (v : Version) (session : ℕ) (serial : Serial) (times : Timing) (base now messages : Bytes) : Type 0 where
-  pub reads : Reads v session serial times (diff bytes bytes (payload.items base) (payload.items now)) messages
+  pub reads : HeardAs v session serial times (diff bytes bytes (payload.items base) (payload.items now)) messages
   pub taken : router.take (spoken v (payload.items base)) (reads .told) ≡ all (spoken v (payload.items now))
 
 -- from the snapshot that most recently carried the serial asked for
@@ -55,7 +56,7 @@ abbrev pub written : Plan → Bytes → Tally → Bytes
 written p out t = take (t .len) (outAt p out)
 
 -- once a first snapshot is accepted
-pub record Wire (v : Version) (session : ℕ) (start : Serial) (r : Run) : Type 0 where
+pub record Wire (v : Version) (session : ℕ) (start : Serial) (r : Reached) : Type 0 where
   -- the messages of a served query lead a router from the snapshot that most recently carried its serial to the current one
   pub query : (s : Session) (asked : Serial) (times : Timing) (out : Bytes) (t : Tally) → asked .0 < 2 ^ 32 → ¬ (r .given ≡ []) →
       sentAt (queryIn v (r .world) s asked times) (length out) .reply ≡ Data t →

@@ -5,7 +5,7 @@ use Rattle.serial.specs.declared.Serial.{Serial}
 use Rattle.serial.specs.declared.order.Standing.the-variants.{Before, After, Unordered}
 use Rattle.serial.specs.declared.timing.Timing.{Timing}
 use Rattle.serial.specs.Serial.{nextOf, distanceOf, sessionOf}
-use Rattle.serial.specs.Rfc1982.{firstOf, standing}
+use Rattle.serial.specs.Rfc1982.{firstTrue, standing}
 use Rattle.serial.specs.Timing.{timingOf}
 
 abbrev serial : ℕ → Serial
@@ -32,17 +32,17 @@ session-cut = (refl, refl, refl)
 
 -- across the wrap, 0 is after 4,294,967,295
 pub after-wrap : (standing (serial 0) (serial 4294967295) ≡ After) × (standing (serial 4294967295) (serial 0) ≡ Before)
-unfolding standing firstOf
+unfolding standing firstTrue
 after-wrap = (refl, refl)
 
 -- around half the range: 2^31 - 1 steps on is after, 2^31 is unordered either way, 2^31 + 1 is before
 pub around-half : (standing (serial 2147483648) (serial 1) ≡ After) × (standing (serial 2147483649) (serial 1) ≡ Unordered) × (standing (serial 1) (serial 2147483649) ≡ Unordered) × (standing (serial 2147483650) (serial 1) ≡ Before)
-unfolding standing firstOf
+unfolding standing firstTrue
 around-half = (refl, refl, refl, refl)
 
 -- the order is not transitive: 0 is before 2,147,483,647, which is before 4,294,967,294, which is before 0
 pub not-transitive : (standing (serial 0) (serial 2147483647) ≡ Before) × (standing (serial 2147483647) (serial 4294967294) ≡ Before) × (standing (serial 4294967294) (serial 0) ≡ Before)
-unfolding standing firstOf
+unfolding standing firstTrue
 not-transitive = (refl, refl, refl)
 
 -- timing (0, 0, 0): (1, 1, 600)

@@ -9,7 +9,7 @@ use borrow.Author.Tests.{ltb-true, ltb-false, lt-ltb, le-ltb, eq-eqb, ne-eqb}
 use Rattle.serial.specs.declared.Serial.{Serial}
 use Rattle.serial.specs.declared.order.Standing.the-variants.{Equal, Before, After, Unordered}
 use Rattle.serial.specs.Serial.{nextOf, distanceOf}
-use Rattle.serial.specs.Rfc1982.{half, firstOf, standing}
+use Rattle.serial.specs.Rfc1982.{half, firstTrue, standing}
 use Rattle.serial.proofs.Steps.{next-below, next-distance}
 
 -- of two numbers the first is below, the same or above
@@ -29,7 +29,7 @@ side m n = go (ltb m n) refl (ltb n m) refl
 -- the standing by the cases of the RFC's text: the numbers equal, rising or falling, by less than half, by half or by more
 module _ (a b : Serial) where
   level : a .0 ≡ b .0 → Equal ≡ standing a b
-  unfolding standing firstOf
+  unfolding standing firstTrue
   level e = rw (eq-eqb (a .0) (b .0) e)
 
   module _ (h : a .0 < b .0) where
@@ -37,15 +37,15 @@ module _ (a b : Serial) where
     rising = (ne-eqb (a .0) (b .0) (omega arith), lt-ltb (a .0) (b .0) h, le-ltb (b .0) (a .0) (omega arith))
 
     rise-near : b .0 - a .0 < half → Before ≡ standing a b
-    unfolding standing firstOf
+    unfolding standing firstTrue
     rise-near k = rw (rising .0, rising .1, lt-ltb (b .0 - a .0) half k)
 
     rise-half : b .0 - a .0 ≡ half → Unordered ≡ standing a b
-    unfolding standing firstOf
+    unfolding standing firstTrue
     rise-half k = rw (rising .0, rising .1, rising .2, k)
 
     rise-far : half < b .0 - a .0 → After ≡ standing a b
-    unfolding standing firstOf
+    unfolding standing firstTrue
     rise-far k = rw (rising .0, rising .1, rising .2, le-ltb (b .0 - a .0) half (omega arith), lt-ltb half (b .0 - a .0) k)
 
   module _ (h : b .0 < a .0) where
@@ -53,15 +53,15 @@ module _ (a b : Serial) where
     falling = (ne-eqb (a .0) (b .0) (omega arith), le-ltb (a .0) (b .0) (omega arith), lt-ltb (b .0) (a .0) h)
 
     fall-near : a .0 - b .0 < half → After ≡ standing a b
-    unfolding standing firstOf
+    unfolding standing firstTrue
     fall-near k = rw (falling .0, falling .1, falling .2, le-ltb half (a .0 - b .0) (omega arith), lt-ltb (a .0 - b .0) half k)
 
     fall-half : a .0 - b .0 ≡ half → Unordered ≡ standing a b
-    unfolding standing firstOf
+    unfolding standing firstTrue
     fall-half k = rw (falling .0, falling .1, falling .2, k)
 
     fall-far : half < a .0 - b .0 → Before ≡ standing a b
-    unfolding standing firstOf
+    unfolding standing firstTrue
     fall-far k = rw (falling .0, falling .1, falling .2, lt-ltb half (a .0 - b .0) k)
 
 -- the standing by how far the first serial is past the second

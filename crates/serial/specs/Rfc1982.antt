@@ -27,12 +27,12 @@ abbrev pub greater : ℕ → ℕ → Bool
 greater i1 i2 = (ltb i1 i2 && ltb half (i2 - i1)) || (ltb i2 i1 && ltb (i1 - i2) half)
 
 -- the first of equal, less and greater that holds; where none does, the two are unordered
-unfoldable pub firstOf : (equal less greater : Bool) → Standing
-firstOf true l g = Equal
-firstOf false true g = Before
-firstOf false false true = After
-firstOf false false false = Unordered
+unfoldable pub firstTrue : (equal less greater : Bool) → Standing
+firstTrue true l g = Equal
+firstTrue false true g = Before
+firstTrue false false true = After
+firstTrue false false false = Unordered
 
 -- how s1 stands to s2
 unfoldable pub standing : Serial → Serial → Standing
-standing s1 s2 = firstOf (equal (s1 .0) (s2 .0)) (less (s1 .0) (s2 .0)) (greater (s1 .0) (s2 .0))
+standing s1 s2 = firstTrue (equal (s1 .0) (s2 .0)) (less (s1 .0) (s2 .0)) (greater (s1 .0) (s2 .0))

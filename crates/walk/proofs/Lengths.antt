@@ -20,7 +20,7 @@ use Rattle.change.specs.Change.{Change, announce, withdraw, update, unlessEqual
 use Rattle.change.specs.Difference as change
 use Rattle.change.specs.Merge.{table, mergeAt, merge}
 use Rattle.field.specs.declared.tag.Form.{Form}
-use Rattle.field.specs.Cells.{Cell, cells, field, encode}
+use Rattle.field.specs.Cells.{Cell, cells, field, cellBytes}
 use Rattle.field.specs.Run.{AllBytes, Run, GoodAt, done, more}
 use Rattle.field.proofs.Fronts.{shorter}
 use Rattle.field.proofs.Encode.{field-front, rest-bytes}
@@ -51,12 +51,12 @@ width k c = 3 + (length (drop 1 k) + length (valuesFor c))
 
 module _ (form : Form) where
   cons-length : (x : I) (d : D) → length (writes form (x ∷ d)) ≡ width (x .key) (x .val) + length (writes form d)
-  unfolding encode field width
+  unfolding cellBytes field width
   cons-length x d =
       omega (arith, length-append (drop 1 (x .key) ++ valuesFor (x .val)) (writes form d), length-append (drop 1 (x .key)) (valuesFor (x .val)))
 
   nil-length : length (writes form []) ≡ 0
-  unfolding encode
+  unfolding cellBytes
   nil-length = refl
 
   -- what a key yields, if it is no longer than m

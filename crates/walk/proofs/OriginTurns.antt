@@ -25,7 +25,7 @@ use Rattle.field.specs.Number.{twoAt}
 use Rattle.field.specs.Origin.{goodOrigin}
 use Rattle.field.specs.Tag.{tagOf, kindOf, goodBody}
 use Rattle.field.specs.Key.{keyOf}
-use Rattle.field.specs.Cells.{Cell, field, encode}
+use Rattle.field.specs.Cells.{Cell, field, cellBytes}
 use Rattle.field.specs.Places.{part}
 use Rattle.field.specs.Progress.{If}
 use Rattle.field.specs.Run.{AllBytes, GoodAt}
@@ -48,7 +48,7 @@ use Rattle.walk.specs.declared.pass.Stand.{Stand}
 use Rattle.walk.specs.declared.origins.OriginStep.{OriginStep}
 use Rattle.walk.specs.declared.origins.OriginStep.the-variants.{Other, On}
 use Rattle.walk.specs.Walk.{leftOf, Stands, Wrote}
-use Rattle.walk.specs.Origins.{originOf, OriginAt, Countable, bothOrigins, BothAt, Turns, OriginStepMeans, OriginStepIs}
+use Rattle.walk.specs.Origins.{originOf, OriginAt, OriginCountable, bothOrigins, BothAt, Turns, OriginStepMeans, OriginStepIs}
 use Rattle.item.proofs.Heres.{here, cell, next, reads, said, behind, within, lies}
 use Rattle.walk.proofs.Walking.{plus-nil, writes-nil, then}
 
@@ -103,7 +103,7 @@ module _ (s : Bytes) (at : ℕ) (r : Ready Changes s at) (o : (i : ℕ) → Fits
     low-is = let z : at + 1 + 1 ≡ at + 2 = omega arith in let e = rw z at (f .size) in omega (arith, e, size, o (at + 2) .fits)
 
     lies-is : writes Delta (originOf s at ∷ []) ≡ take 26 (drop at s)
-    unfolding encode field
+    unfolding cellBytes field
     lies-is =
         let ob : AllBytes (f .body) = subst AllBytes (sym (lies Delta s at (r .good) inside)) (take-bytes (length (f .body)) (drop (at + 3) s) (drop-bytes (at + 3) s (λ i. o i .fits))) in
         let c : Cell = cell Delta s at (r .good) inside in
@@ -212,7 +212,7 @@ module _ (a : Bytes) (i : ℕ) (b : Bytes) (j : ℕ) (c : Counts) (u : Turns a i
   pub turns-right : OriginAt b j
   turns-right = u .both .right
 
-  pub turns-room : Countable c
+  pub turns-room : OriginCountable c
   turns-room = u .room
 
   pub same-in-a : i < length a
@@ -246,7 +246,7 @@ pub ruleset same = (turns-left, turns-room, same-in-a, same-in-b, apart-counts, 
 
 -- ---- origin_turn
 
-pub both-here : (a : Bytes) (i : ℕ) (b : Bytes) (j : ℕ) (c : Counts) → Ready Changes a i → Ready Changes b j → Countable c → (r : Bool) → If r (BothAt a i b j) → not r ≡ false
+pub both-here : (a : Bytes) (i : ℕ) (b : Bytes) (j : ℕ) (c : Counts) → Ready Changes a i → Ready Changes b j → OriginCountable c → (r : Bool) → If r (BothAt a i b j) → not r ≡ false
     → Turns a i b j c
 both-here a i b j c x y n r f e = record { both = f .holds (not-false r e); ready-a = x; ready-b = y; room = n }
 
@@ -355,7 +355,7 @@ module _ (a : Bytes) (i : ℕ) (b : Bytes) (j : ℕ) (c : Counts) (u : Turns a i
       withdrawn : sumOf withdraws (bothOrigins a i b j) ≤ 1
 
     small : Small
-    unfolding encode
+    unfolding cellBytes
     small = go (eqb (getD a i 0) (getD b j 0)) refl
       where
         go : (t : Bool) → eqb (getD a i 0) (getD b j 0) ≡ t → Small
@@ -396,7 +396,7 @@ pub record Merged (a : Bytes) (i₀ : ℕ) (b : Bytes) (j₀ : ℕ) (c₀ : Coun
   pub wrote : Wrote Delta Changes a i₀ Changes b j₀ c₀ o₀ o i j c
 
 pub merged-start : (a : Bytes) (i : ℕ) (b : Bytes) (j : ℕ) (c : Counts) (o : Bytes) → Stands Changes a i Changes b j c → Merged a i b j c o o i j c
-unfolding encode
+unfolding cellBytes
 merged-start a i b j c o s = record {
   start = s;
   len = refl;
@@ -422,7 +422,7 @@ module _ (a : Bytes) (i₀ : ℕ) (b : Bytes) (j₀ : ℕ) (c₀ : Counts) (o₀
   pub merged-right : Ready Changes b j
   merged-right = m .wrote .ready-b
 
-  pub merged-countable : Countable c
+  pub merged-countable : OriginCountable c
   merged-countable =
       let s = m .start in
       let w = m .wrote in

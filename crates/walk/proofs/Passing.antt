@@ -18,7 +18,7 @@ use Rattle.field.specs.declared.tag.Form.{Form}
 use Rattle.field.specs.declared.tag.Form.the-variants.{Snapshot, Delta}
 use Rattle.field.specs.Tag.{goodBody, kindOf}
 use Rattle.field.specs.Key.{keyOf}
-use Rattle.field.specs.Cells.{Cell, cells, field, encode}
+use Rattle.field.specs.Cells.{Cell, cells, field, cellBytes}
 use Rattle.field.specs.Run.{AllBytes, Run, GoodAt, done, more}
 use Rattle.field.proofs.Digits.{snapshot-kind}
 use Rattle.field.proofs.Encode.{field-front, rest-bytes}
@@ -60,7 +60,7 @@ unfolding keyOf
 same-cell tag b o g = cell-path (snapshot-kind tag b g) (ap (λ (x : Cell). x .body) (says-back Snapshot tag b o g))
 
 run-bytes : {k s : Bytes} → Run Snapshot k s → AllBytes s → writes Snapshot (readAs Announced s) ≡ s
-unfolding encode
+unfolding cellBytes
 run-bytes done o = rw (says-nil [] Announced cells-end)
 run-bytes (more {s = s} tag b rest f g z l r) o =
     let w : s ≡ field tag b ++ rest = field-front s tag b rest o f in
@@ -166,7 +166,7 @@ pub ruleset below = (stands-left, stands-right, below-lies, below-wrote, below-l
 
 module _ (form : Form) (ra : Reading) (a : Bytes) (i : ℕ) (rb : Reading) (b : Bytes) (j : ℕ) (c : Counts) (u : Bytes) where
   pub pass-skips : (k : ℕ) → Skips ra a i rb b j k → Wrote form ra a i rb b j c u u (i + k) (j + k) c
-  unfolding encode
+  unfolding cellBytes
   pass-skips k s = record {
     written = [];
     is = s .is;

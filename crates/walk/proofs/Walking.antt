@@ -20,7 +20,7 @@ use Rattle.change.specs.Merge.{table, mergeAt, merge}
 use Rattle.change.proofs.Whole.{merge-later, merge-earlier}
 use Rattle.field.specs.declared.tag.Form.{Form}
 use Rattle.field.specs.declared.key.Key.{Key}
-use Rattle.field.specs.Cells.{encode}
+use Rattle.field.specs.Cells.{cellBytes}
 use Rattle.field.specs.Places.{keyIn}
 use Rattle.payload.specs.Content.{Bytes}
 use Rattle.payload.specs.Count.{announces, withdraws, sumOf}
@@ -42,7 +42,7 @@ use Rattle.walk.specs.declared.walk.Step.{Step}
 use Rattle.walk.specs.declared.walk.Step.the-variants as step
 use Rattle.walk.specs.declared.walk.Output.the-variants.{NoRoom, Written}
 use Rattle.walk.specs.Turn.{TurnIs, TurnMeans}
-use Rattle.item.specs.Write.{fieldAs, writes, plusItem, plusAll, zero, Room}
+use Rattle.item.specs.Write.{fieldAs, writes, plusItem, plusAll, zero, Countable}
 use Rattle.walk.specs.declared.pass.Stand.{Stand}
 use Rattle.walk.specs.Walk.{EntryIn, bothOf, Passed, leftOf, Wrote, Stands, StepMeans, StepIs, Sized, Runs, outputOf, wholeOut}
 use Rattle.item.proofs.Sinking.{sets-append}
@@ -55,15 +55,15 @@ D = change.Delta Bytes Bytes
 -- ---- counts and bytes of a list
 
 pub plus-nil : (form : Form) (c : Counts) → c ≡ plusAll form c []
-unfolding encode
+unfolding cellBytes
 plus-nil form c = counts-path (omega arith) (omega arith) (omega arith)
 
 pub writes-nil : (form : Form) (o : Bytes) (i : ℕ) → o ≡ sets o i (writes form [])
-unfolding encode
+unfolding cellBytes
 writes-nil form o i = refl
 
 pub writes-append : (form : Form) (e f : D) → writes form (e ++ f) ≡ writes form e ++ writes form f
-unfolding encode
+unfolding cellBytes
 writes-append form [] f = refl
 writes-append form (x ∷ e) f = ap (λ (s : Bytes). fieldAs form x ++ s) (writes-append form e f) ∙ sym (append-assoc (fieldAs form x) (writes form e) (writes form f))
 
@@ -82,11 +82,11 @@ sets-writes form o i e f = ap (sets o i) (writes-append form e f) ∙ sets-appen
 -- one item alone
 module _ (form : Form) (c : Counts) (x : Item Bytes (Change Bytes)) where
   plus-one : plusItem form c x ≡ plusAll form c (x ∷ [])
-  unfolding encode
+  unfolding cellBytes
   plus-one = counts-path (omega (arith, length-append (fieldAs form x) [])) (omega arith) (omega arith)
 
   writes-one : fieldAs form x ≡ writes form (x ∷ [])
-  unfolding encode
+  unfolding cellBytes
   writes-one = sym (append-nil (fieldAs form x))
 
 -- ---- put_both
@@ -170,7 +170,7 @@ record BothSmall (form : Form) (a : Bytes) (x : Entry) (b : Bytes) (y : Entry) :
   withdrawn : sumOf withdraws (bothOf a x b y) ≤ 1
 
 both-small : (form : Form) (a : Bytes) (x : Entry) (b : Bytes) (y : Entry) → KeyIn a (x .key) → ActFits a a (x .act) → ActFits b b (y .act) → BothSmall form a x b y
-unfolding encode
+unfolding cellBytes
 both-small form a x b y k f g = let t = table-held a (x .act) b (y .act) f g in go (t .held) (t .holds)
   where
     go : (h : Held) → Holds a b (table bytes (changeIn a a (x .act)) (changeIn b b (y .act))) h → BothSmall form a x b y
@@ -239,7 +239,7 @@ module _ (form : Form) (reading : Reading) (s : Bytes) (from : ℕ) (o₀ : Byte
           }
 
 pub rest-room : (form : Form) (reading : Reading) (s : Bytes) (from : ℕ) (o₀ : Bytes) (c₀ : Counts) (at : ℕ) (c : Counts) (o : Bytes) →
-    Resting form reading s from o₀ c₀ at c o → Room c
+    Resting form reading s from o₀ c₀ at c o → Countable c
 rest-room form reading s from o₀ c₀ at c o h =
     let w = h .ready .within in
     let p = h .passed in
@@ -421,7 +421,7 @@ module _ (form : Form) (ra : Reading) (a : Bytes) (i : ℕ) (rb : Reading) (b : 
     turned : Wrote form ra a i rb b j c o o′ p q c′ × (i + j < p + q)
     turned = rw e at (h .is)
 
-    pub pass-stands : Room c → Sized a b → Stands ra a p rb b q c′
+    pub pass-stands : Countable c → Sized a b → Stands ra a p rb b q c′
     pass-stands r s =
         let w = turned .0 in
         let x = w .ready-a .within in
@@ -471,7 +471,7 @@ merge-start form ra a rb b o r = record {
 
 module _ (form : Form) (ra : Reading) (a : Bytes) (rb : Reading) (b o₀ : Bytes) (i j : ℕ) (c : Counts) (o : Bytes)
     (m : Merging form ra a rb b o₀ i j c o) where
-  pub merge-room : Room c
+  pub merge-room : Countable c
   merge-room =
       let x = m .ready-a .within in
       let y = m .ready-b .within in

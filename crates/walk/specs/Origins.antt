@@ -34,7 +34,7 @@ pub record OriginAt (s : Bytes) (at : ℕ) : Type 0 where
   pub next : Ready Changes s (at + 26)
 
 -- one more origin can be counted
-pub record Countable (c : Counts) : Type 0 where
+pub record OriginCountable (c : Counts) : Type 0 where
   pub len : c .len < 2 ^ 63 + 2 ^ 62
   pub announced : c .announced < 2 ^ 63 + 2 ^ 62
   pub withdrawn : c .withdrawn < 2 ^ 63 + 2 ^ 62
@@ -53,7 +53,7 @@ pub record Turns (a : Bytes) (i : ℕ) (b : Bytes) (j : ℕ) (c : Counts) : Type
   pub both : BothAt a i b j
   pub ready-a : Ready Changes a i
   pub ready-b : Ready Changes b j
-  pub room : Countable c
+  pub room : OriginCountable c
 
 module _ (a : Bytes) (i : ℕ) (b : Bytes) (j : ℕ) (c : Counts) (o o′ : Bytes) where
   abbrev pub OriginStepMeans : OriginStep → Type 0

@@ -11,8 +11,11 @@ use Rattle.order.specs.Walk.{emit}
 use Rattle.change.specs.Difference.{Delta}
 use Rattle.change.specs.Merge.{table, merge}
 use Rattle.field.specs.declared.tag.Form.{Form}
+use Rattle.field.specs.declared.tag.Form.the-variants as form
 use Rattle.field.specs.Places.{keyIn}
 use Rattle.payload.specs.Content.{Bytes}
+use Rattle.payload.specs.Limit.{limit}
+use Rattle.payload.specs.Written.{writtenIfRoom}
 use Rattle.item.specs.declared.place.Entry.{Entry}
 use Rattle.payload.specs.Count.{announces, withdraws, sumOf}
 use Rattle.item.specs.declared.sink.Counts.{Counts}
@@ -37,10 +40,10 @@ bothOf a x b y = emit (keyIn a (x .key)) (table bytes (changeIn a a (x .act)) (c
 
 -- what was counted so far leaves room for what the run still has: one field has at most 40,000 bytes
 pub record Passed (c : Counts) (at size : ℕ) : Type 0 where
-  pub short : size ≤ 33_554_432
-  pub len : c .len ≤ 40_000 * (33_554_432 + at)
-  pub announced : c .announced ≤ 33_554_432 + at
-  pub withdrawn : c .withdrawn ≤ 33_554_432 + at
+  pub short : size ≤ limit form.Delta
+  pub len : c .len ≤ 40_000 * (limit form.Delta + at)
+  pub announced : c .announced ≤ limit form.Delta + at
+  pub withdrawn : c .withdrawn ≤ limit form.Delta + at
 
 -- what is left to be merged of a from i on and of b from j on
 abbrev pub leftOf : Reading → Bytes → ℕ → Reading → Bytes → ℕ → Delta Bytes Bytes
@@ -65,8 +68,8 @@ pub record Wrote (form : Form) (ra : Reading) (a : Bytes) (i : ℕ) (rb : Readin
 pub record Stands (ra : Reading) (a : Bytes) (i : ℕ) (rb : Reading) (b : Bytes) (j : ℕ) (c : Counts) : Type 0 where
   pub ready-a : Ready ra a i
   pub ready-b : Ready rb b j
-  pub short-a : length a ≤ 33_554_432
-  pub short-b : length b ≤ 33_554_432
+  pub short-a : length a ≤ limit form.Delta
+  pub short-b : length b ≤ limit form.Delta
   pub len : c .len < 2 ^ 63
   pub announced : c .announced < 2 ^ 63
   pub withdrawn : c .withdrawn < 2 ^ 63
@@ -82,15 +85,15 @@ module _ (form : Form) (ra : Reading) (a : Bytes) (i : ℕ) (rb : Reading) (b : 
 
 -- two runs within the longer of the limits
 pub record Sized (a b : Bytes) : Type 0 where
-  pub short-a : length a ≤ 33_554_432
-  pub short-b : length b ≤ 33_554_432
+  pub short-a : length a ≤ limit form.Delta
+  pub short-b : length b ≤ limit form.Delta
 
 -- two good runs, within the longer of the limits
 pub record Runs (ra : Reading) (a : Bytes) (rb : Reading) (b : Bytes) : Type 0 where
   pub good-a : Ready ra a 0
   pub good-b : Ready rb b 0
-  pub short-a : length a ≤ 33_554_432
-  pub short-b : length b ≤ 33_554_432
+  pub short-a : length a ≤ limit form.Delta
+  pub short-b : length b ≤ limit form.Delta
 
 -- both read as changes and merged
 abbrev pub mergedAs : Reading → Bytes → Reading → Bytes → Delta Bytes Bytes
@@ -101,4 +104,4 @@ abbrev pub outputOf : Form → Delta Bytes Bytes → ℕ → Output
 outputOf form D room = cond (leb (length (writes form D)) room) (Written (plusAll form zero D)) NoRoom
 
 abbrev pub wholeOut : Form → Delta Bytes Bytes → Bytes → Bytes
-wholeOut form D out = cond (leb (length (writes form D)) (length out)) (writes form D ++ drop (length (writes form D)) out) out
+wholeOut form D out = writtenIfRoom (writes form D) out

@@ -15,7 +15,7 @@ ghost use Rattle.item.specs.declared.reading.Reading.the-variants.{Changes};
 ghost use Rattle.item.specs.Reading.{Ready};
 ghost use Rattle.item.specs.Write.{plusAll, writes};
 ghost use Rattle.walk.specs.Walk.{Stands, Wrote};
-ghost use Rattle.walk.specs.Origins.{originOf, bothOrigins, Countable, OriginAt, BothAt, Turns, OriginStepIs};
+ghost use Rattle.walk.specs.Origins.{originOf, bothOrigins, OriginCountable, OriginAt, BothAt, Turns, OriginStepIs};
 
 // Whether a delta has an origin at a place. A no decides nothing.
 fn origin_at(s: &[u8], at: usize) -> bool
@@ -44,7 +44,7 @@ fn both_at(a: &[u8], i: usize, b: &[u8], j: usize) -> bool
 
 // The origin at a place, as it lies.
 fn put_origin(s: &[u8], at: usize, out: &mut [u8], counts: Counts) -> Counts
-    requires { ⌜ OriginAt (now s) at × Countable counts ⌝ }
+    requires { ⌜ OriginAt (now s) at × OriginCountable counts ⌝ }
     ensures { λ r. ⌜ (r ≡ plusAll Delta counts (originOf (now (s .entry)) at ∷ [])) × (now (out .exit) ≡ sets (now (out .entry)) (counts .len) (writes Delta (originOf (now (s .entry)) at ∷ []))) ⌝ }
 {
     copy(
@@ -116,7 +116,7 @@ fn merge_turn(a: &[u8], i: usize, b: &[u8], j: usize, out: &mut [u8], counts: Co
 
 // One turn, if both sides have an origin.
 fn origin_turn(a: &[u8], i: usize, b: &[u8], j: usize, out: &mut [u8], counts: Counts) -> OriginStep
-    requires { ⌜ Ready Changes (now a) i × (Ready Changes (now b) j × Countable counts) ⌝ }
+    requires { ⌜ Ready Changes (now a) i × (Ready Changes (now b) j × OriginCountable counts) ⌝ }
     ensures { λ r. ⌜ OriginStepIs (now (a .entry)) i (now (b .entry)) j counts (now (out .entry)) (now (out .exit)) r ⌝ }
 {
     if !both_at(a, i, b, j) {

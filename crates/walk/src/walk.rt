@@ -19,12 +19,12 @@ ghost use lib.ListN.{length, drop};
 ghost use lib.Seq.{sets};
 ghost use Rattle.item.specs.Place.{itemIn};
 ghost use Rattle.item.specs.Reading.{readAs, Ready};
-ghost use Rattle.item.specs.Write.{Room, plusItem, plusAll, fieldAs, writes, zero};
+ghost use Rattle.item.specs.Write.{Countable, plusItem, plusAll, fieldAs, writes, zero};
 ghost use Rattle.walk.specs.Walk.{EntryIn, bothOf, Passed, Sized, Runs, mergedAs, StepIs, outputOf, wholeOut};
 
 // An item that one side alone has.
 fn put_one(form: Form, s: &[u8], x: Entry, out: &mut [u8], counts: Counts) -> Counts
-    requires { ⌜ EntryIn (now s) x × Room counts ⌝ }
+    requires { ⌜ EntryIn (now s) x × Countable counts ⌝ }
     ensures { λ r. ⌜ (r ≡ plusItem form counts (itemIn (now (s .entry)) (now (s .entry)) (x .key) (x .act))) × (now (out .exit) ≡ sets (now (out .entry)) (counts .len) (fieldAs form (itemIn (now (s .entry)) (now (s .entry)) (x .key) (x .act)))) ⌝ }
 {
     let key = x.key;
@@ -42,7 +42,7 @@ fn put_both(
     out: &mut [u8],
     counts: Counts,
 ) -> Counts
-    requires { ⌜ EntryIn (now a) x × (EntryIn (now b) y × Room counts) ⌝ }
+    requires { ⌜ EntryIn (now a) x × (EntryIn (now b) y × Countable counts) ⌝ }
     ensures { λ r. ⌜ (r ≡ plusAll form counts (bothOf (now (a .entry)) x (now (b .entry)) y)) × (now (out .exit) ≡ sets (now (out .entry)) (counts .len) (writes form (bothOf (now (a .entry)) x (now (b .entry)) y))) ⌝ }
 {
     let key = x.key;
@@ -97,7 +97,7 @@ fn put_turn(
     out: &mut [u8],
     counts: Counts,
 ) -> Step
-    requires { ⌜ Ready ra (now a) i × (Ready rb (now b) j × Room counts) ⌝ }
+    requires { ⌜ Ready ra (now a) i × (Ready rb (now b) j × Countable counts) ⌝ }
     ensures { λ r. ⌜ StepIs form ra (now (a .entry)) i rb (now (b .entry)) j counts (now (out .entry)) (now (out .exit)) r ⌝ }
 {
     match take_turn(ra, a, i, rb, b, j) {
@@ -129,7 +129,7 @@ fn put_step(
     out: &mut [u8],
     counts: Counts,
 ) -> Step
-    requires { ⌜ Ready ra (now a) i × (Ready rb (now b) j × (Room counts × Sized (now a) (now b))) ⌝ }
+    requires { ⌜ Ready ra (now a) i × (Ready rb (now b) j × (Countable counts × Sized (now a) (now b))) ⌝ }
     ensures { λ r. ⌜ StepIs form ra (now (a .entry)) i rb (now (b .entry)) j counts (now (out .entry)) (now (out .exit)) r ⌝ }
 {
     match put_turn(form, ra, a, i, rb, b, j, out, counts) {

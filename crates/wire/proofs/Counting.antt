@@ -17,7 +17,7 @@ use Rattle.field.specs.RouterKey.{goodRouterKey}
 use Rattle.field.specs.Places.{part, keyIn}
 use Rattle.field.proofs.Sizes.{both}
 use Rattle.payload.specs.Content.{Bytes}
-use Rattle.payload.specs.Valid.{ValidValue, ValidChange, origin, routerKey, aspa, announced, withdrawn, updated}
+use Rattle.payload.specs.Valid.{ValidValue, ValidChange, origin, routerKey, aspa, validAnnounce, validWithdraw, validUpdate}
 use Rattle.payload.specs.Count.{announces, withdraws}
 use Rattle.item.specs.declared.place.Act.{Act}
 use Rattle.item.specs.declared.place.Act.the-variants.{Announce, Withdraw, Update}
@@ -29,7 +29,7 @@ use Rattle.message.specs.Message.{pdu}
 use Rattle.message.specs.Record.{messageOf, flagsOf}
 use Rattle.pdu.specs.Write.{flagsPlace, Sayable, PutIs}
 use Rattle.wire.specs.declared.tally.Tally.{Tally}
-use Rattle.wire.specs.Tally.{saying, plusAll, plusPlace, skipPlace, Room, Says, Steps, ItemIs}
+use Rattle.wire.specs.Tally.{saying, plusAll, plusPlace, skipPlace, Countable, Says, Steps, ItemIs}
 use Rattle.wire.proofs.Saying.{X, tally-path, said-one, sum-one, skipped-said, unsaid-one, sum-unsaid, skipped-unsaid}
 
 -- ---- what a version speaks of
@@ -57,9 +57,9 @@ value-shape (routerKey {k} g) = aRouterKey refl (leb-true 24 (length k) (both (l
 value-shape (aspa l p s) = anAspa refl
 
 pub shape-of : {k : Bytes} {c : Change Bytes} → ValidChange k c → Shape k
-shape-of (announced h) = value-shape h
-shape-of (withdrawn h) = value-shape h
-shape-of (updated h g) = anAspa refl
+shape-of (validAnnounce h) = value-shape h
+shape-of (validWithdraw h) = value-shape h
+shape-of (validUpdate h g) = anAspa refl
 
 -- ---- flags
 
@@ -177,7 +177,7 @@ module _ (v : Version) (s : Bytes) (key : Key) (act : Act) (y : Says s key act) 
             laid = λ g. p .laid (omega (arith, n, p .size)) ∙ ap (sets o (t .len)) bytes-are;
           }
 
-pub room-len : (t : Tally) → Room t → t .len < 2 ^ 62
+pub room-len : (t : Tally) → Countable t → t .len < 2 ^ 62
 room-len t r = r .len
 
 pub ruleset counting = (flags-small, room-len, item-skipped, item-sayable, item-small, item-said)

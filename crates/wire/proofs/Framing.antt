@@ -25,7 +25,7 @@ use Rattle.wire.specs.declared.tally.Tally.{Tally}
 use Rattle.wire.specs.declared.frame.Frame.{Frame}
 use Rattle.wire.specs.declared.sent.Writing.the-variants.{NoRoom, Whole}
 use Rattle.wire.specs.Answer.{frameOf, answerBytes, tallyOf}
-use Rattle.wire.specs.Tally.{saying, start, Room}
+use Rattle.wire.specs.Tally.{saying, start, Countable}
 use Rattle.wire.specs.Put.{OpenIs, LaidIs, CloseIs, TallyIs, AnswerIs, writingOf, answerOut}
 use Rattle.wire.proofs.Saying.{D, tally-path, pdus-append}
 
@@ -46,7 +46,7 @@ end-low Rfc6810 = omega arith
 end-low Rfc8210 = omega arith
 
 module _ (v : Version) (f : Frame) (t : Tally) (n : ℕ) (e : n ≡ endLength v) where
-  pub close-sum : Room t → t .len + n < 2 ^ 64
+  pub close-sum : Countable t → t .len + n < 2 ^ 64
   close-sum r = omega (arith, end-low v, r .len)
 
   all-is : _≡_ {A = Tally} (record { len = t .len + n; announced = t .announced; withdrawn = t .withdrawn; keys = t .keys; aspas = t .aspas })
@@ -116,7 +116,7 @@ module _ (v : Version) (f : Frame) (d : D) where
             ∙ sym (sets-append response (saying v d ++ ending) o 0) ∙ ap (sets o 0) (sym bytes-are);
       }
 
-  pub laid-room : (o o′ : Bytes) (t : Tally) → LaidIs v d o o′ t → Room t
+  pub laid-room : (o o′ : Bytes) (t : Tally) → LaidIs v d o o′ t → Countable t
   laid-room o o′ t l = l .room
 
   pub answer-tally : (o o′ : Bytes) (r : Tally) → AnswerIs v f d o o′ r → TallyIs v f d r

@@ -9,6 +9,7 @@ use Rattle.order.specs.Map.{All}
 use Rattle.field.specs.declared.tag.Form.the-variants.{Snapshot, Delta}
 use Rattle.field.specs.declared.key.Key.{Key}
 use Rattle.payload.specs.Content.{Bytes}
+use Rattle.payload.specs.Limit.{limit}
 use Rattle.payload.specs.Valid.{Valid}
 use Rattle.payload.proofs.Faithful.{faithful}
 use Rattle.payload.proofs.Closed.{diff-map, merge-all-map}
@@ -28,8 +29,8 @@ use Rattle.cursors.specs.Cursor.{leftOf, runs, itemsLeft, Within, Walks, ItemFi
 use Rattle.cursors.specs.Front.{Fronted, line}
 use Rattle.wire.specs.declared.tally.Tally.{Tally}
 use Rattle.wire.specs.Answer.{allNew}
-use Rattle.wire.specs.declared.origins.Run.{Run}
-use Rattle.wire.specs.Tally.{saying, plusAll, start, Room, Says, Steps, ItemIs}
+use Rattle.wire.specs.declared.origins.RunEnd.{RunEnd}
+use Rattle.wire.specs.Tally.{saying, plusAll, start, Countable, Says, Steps, ItemIs}
 use Rattle.wire.specs.Left.{Left, Listed, Passed}
 use Rattle.wire.specs.Put.{Merges, Holds, LaidIs}
 use Rattle.wire.proofs.Saying.{X, D, saying-cons, saying-none, plus-cons, plus-none}
@@ -64,7 +65,7 @@ module _ (v : Version) (t : Tally) (o : Bytes) (d : D) (t₀ : Tally) (o₀ : By
       }
 
 module _ (v : Version) (t : Tally) (o : Bytes) (d : D) (o₀ : Bytes) (d₀ : D) (l : Left v t o d start o₀ d₀) where
-  left-none : d ≡ [] → Room t → LaidIs v d₀ o₀ o t
+  left-none : d ≡ [] → Countable t → LaidIs v d₀ o₀ o t
   left-none e r = record {
     tally = sym (plus-none v t) ∙ ap (plusAll v t) (sym e) ∙ l .tally;
     room = r;
@@ -80,11 +81,11 @@ pub record Putting (v : Version) (s : Bytes) (at₀ ends f₀ : List ℕ) (from 
   pub walks : Walks s at ends from n
   pub same-long : length at ≡ length at₀
   pub long : length o ≡ length o₀
-  pub len : t .len + 1_056 * itemsLeft s at ends from n ≤ 8 + 1_056 * 33_554_432
-  pub announced : t .announced + itemsLeft s at ends from n ≤ 33_554_432
-  pub withdrawn : t .withdrawn + itemsLeft s at ends from n ≤ 33_554_432
-  pub keys : t .keys + itemsLeft s at ends from n ≤ 33_554_432
-  pub aspas : t .aspas + itemsLeft s at ends from n ≤ 33_554_432
+  pub len : t .len + 1_056 * itemsLeft s at ends from n ≤ 8 + 1_056 * limit Delta
+  pub announced : t .announced + itemsLeft s at ends from n ≤ limit Delta
+  pub withdrawn : t .withdrawn + itemsLeft s at ends from n ≤ limit Delta
+  pub keys : t .keys + itemsLeft s at ends from n ≤ limit Delta
+  pub aspas : t .aspas + itemsLeft s at ends from n ≤ limit Delta
   pub valid : All (Valid Delta) (leftOf s at ends from n)
   pub left : Left v t o (leftOf s at ends from n) start o₀ (leftOf s at₀ ends from n)
 
@@ -115,7 +116,7 @@ module _ (v : Version) (s : Bytes) (at₀ ends f₀ : List ℕ) (from n : ℕ) (
   pub put-walks : Walks s at ends from n
   put-walks = i .walks
 
-  pub put-room : Room t
+  pub put-room : Countable t
   put-room = record {
     len = omega (arith, i .len);
     announced = omega (arith, i .announced);
@@ -186,7 +187,7 @@ listed-more s at next t r x l ahead ready z e =
       valid = a .1;
     }
 
-pub listed-room : (s : Bytes) (at : ℕ) (t : Tally) → Listed s at t → Room t
+pub listed-room : (s : Bytes) (at : ℕ) (t : Tally) → Listed s at t → Countable t
 listed-room s at t l =
     let w = l .ready .within in
     record {
@@ -223,14 +224,14 @@ module _ (v : Version) (s o₀ : Bytes) (at : ℕ) (o : Bytes) (t : Tally) (i : 
   list-listed = i .listed
 
   -- behind a run of origins
-  module _ (o₁ : Bytes) (run : Run) (p : Passed v s at t o o₁ run) where
+  module _ (o₁ : Bytes) (run : RunEnd) (p : Passed v s at t o o₁ run) where
     left : Left v (run .tally) o₁ (readAs Announced (drop (run .at) s)) start o₀ (allNew s)
     left = left-then v t o _ start o₀ _ (i .left) (run .tally) o₁ _ (p .left)
 
     pub list-ready : Ready Announced s (run .at)
     list-ready = p .listed .ready
 
-    pub list-room : Room (run .tally)
+    pub list-room : Countable (run .tally)
     list-room = listed-room s (run .at) (run .tally) (p .listed)
 
     pub list-long : length o₁ ≡ length o₀

@@ -30,7 +30,7 @@ use Rattle.message.specs.Message.{pdu}
 use Rattle.pdu.specs.Write.{ipv4Of, ipv6Of, sizeOf, Lies23, Sayable, PutIs}
 use Rattle.pdu.proofs.Records.{origin-lies, ipv4-size, ipv4-message, ipv6-size, ipv6-message, no-room, put-all}
 use Rattle.wire.specs.declared.tally.Tally.{Tally}
-use Rattle.wire.specs.declared.origins.Run.{Run}
+use Rattle.wire.specs.declared.origins.RunEnd.{RunEnd}
 use Rattle.wire.specs.Tally.{Says, ItemIs}
 use Rattle.wire.specs.Left.{Left, Listed, counted, originKey, originAct, originPdu, OriginAt, Passed}
 use Rattle.wire.proofs.Saying.{tally-path}
@@ -145,7 +145,7 @@ module _ (v : Version) (s : Bytes) (from : ℕ) (t : Tally) (o₀ : Bytes) (at :
   pub run-len : len < 2 ^ 62
   run-len = listed-room s at _ (i .listed) .len
 
-  pub run-done : (r : Run) → r ≡ record { at = at; tally = counted t len announced } → Passed v s from t o₀ o r
+  pub run-done : (r : RunEnd) → r ≡ record { at = at; tally = counted t len announced } → Passed v s from t o₀ o r
   run-done r e = rw e (record { on = i .on; listed = i .listed; left = i .left })
 
   module _ (n : ℕ) (b : Bool) (c : If b (OriginAt s at n)) (e : b ≡ true) where
@@ -187,11 +187,11 @@ pub ruleset running = (run-start, run-ready, run-len, run-done, here-is, run-ins
 
 -- ---- put_origins
 
-module _ (v : Version) (s : Bytes) (from : ℕ) (t : Tally) (o o₁ : Bytes) (q : Run) (p : Passed v s from t o o₁ q) where
+module _ (v : Version) (s : Bytes) (from : ℕ) (t : Tally) (o o₁ : Bytes) (q : RunEnd) (p : Passed v s from t o o₁ q) where
   pub pass-listed : Listed s (q .at) (q .tally)
   pass-listed = p .listed
 
-  pub pass-on : (o₂ : Bytes) (r : Run) → Passed v s (q .at) (q .tally) o₁ o₂ r → Passed v s from t o o₂ r
+  pub pass-on : (o₂ : Bytes) (r : RunEnd) → Passed v s (q .at) (q .tally) o₁ o₂ r → Passed v s from t o o₂ r
   pass-on o₂ r z = record {
     on = omega (arith, p .on, z .on);
     listed = z .listed;

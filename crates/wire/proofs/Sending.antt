@@ -20,6 +20,7 @@ use Rattle.field.specs.declared.tag.Form.the-variants.{Snapshot, Delta}
 use Rattle.field.specs.Number.{twoBytes, fourBytes}
 use Rattle.field.proofs.Sizes.{both}
 use Rattle.payload.specs.Content.{Bytes}
+use Rattle.payload.specs.Written.{writtenIfRoom}
 use Rattle.payload.specs.Limit.{limit}
 use Rattle.payload.specs.Valid.{IsMap}
 use Rattle.payload.specs.Payload.{changes}
@@ -64,7 +65,7 @@ module _ (b : Bytes) (s : Sent) (o : Bytes) where
   sentBy = cond (leb (length b) (length o)) s (refusedWith NoRoom)
 
   abbrev outBy : Bytes
-  outBy = cond (leb (length b) (length o)) (b ++ drop (length b) o) o
+  outBy = writtenIfRoom b o
 
   fits-sent : length b ≤ length o → s ≡ sentBy
   fits-sent h = rw (le-leb (length b) (length o) h)

@@ -37,7 +37,7 @@ use Rattle.wire.proofs.Counting.{Shape, anOrigin, aRouterKey, anAspa, s
 use Rattle.wire.proofs.Framing.{bytes-long}
 
 field-long : (x : X) (d : D) → 3 + length (drop 1 (x .key)) + length (writes Delta d) ≤ length (writes Delta (x ∷ d))
-unfolding run.encode run.field
+unfolding run.cellBytes run.field
 field-long x d = simp length-append (omega arith)
 
 -- an origin's message has at most 32 bytes, its field 26; a router key's has 5 more than its field
@@ -68,5 +68,5 @@ answer-short v f d m h l = let s = saying-short v d h in omega (arith, bytes-lon
 
 -- a snapshot's fields announced take no more bytes than it has
 pub new-short : (s : Bytes) → AllBytes s → verdict Snapshot s ≡ Fine → length (writes Delta (allNew s)) ≤ length s
-unfolding encode run.encode
+unfolding encode run.cellBytes
 new-short s o f = omega (arith, diff-length [] (items s), ap length (faithful Snapshot .bytes-back s o f))

@@ -1,9 +1,9 @@
 -- What the calls that write messages answer, and what they leave in the output.
 use Prim.Native.Nat.{ℕ}
-use mathlib.Core.List.{[], _∷_, _++_, map}
+use mathlib.Core.List.{[], map}
 use mathlib.Core.Bool.{cond}
 use lib.Dec.{leb}
-use lib.ListN.{length, drop}
+use lib.ListN.{length}
 use Rattle.order.specs.Comparison.{bytes}
 use Rattle.change.specs.Difference.{Delta, diff}
 use Rattle.change.specs.Merge.{mergeAll}
@@ -16,6 +16,7 @@ use Rattle.serial.specs.Timing.{timingOf}
 use Rattle.payload.specs.Content.{Bytes}
 use Rattle.payload.specs.Payload.{items, changes}
 use Rattle.payload.specs.Count.{announces, withdraws, sumOf}
+use Rattle.payload.specs.Written.{writtenIfRoom}
 use Rattle.message.specs.declared.version.Version.{Version}
 use Rattle.message.specs.Message.{serialNotify, serialQuery, cacheReset, errorReport, pdu, pdus}
 use Rattle.message.specs.Say.{spoken, skipped, answer}
@@ -67,10 +68,10 @@ unfoldable pub sentAt : Plan → ℕ → Sent
 sentAt (refuse r) room = refusedWith r
 sentAt (write b s) room = cond (leb (length b) room) s (refusedWith NoRoom)
 
--- the output afterwards: all of the bytes, then what stood there; or as it was
+-- the output afterwards
 unfoldable pub outAt : Plan → Bytes → Bytes
 outAt (refuse r) out = out
-outAt (write b s) out = cond (leb (length b) (length out)) (b ++ drop (length b) out) out
+outAt (write b s) out = writtenIfRoom b out
 
 -- Cache Response, the messages of a delta, End of Data
 unfoldable pub dataPlan : Version → Frame → Delta Bytes Bytes → Plan

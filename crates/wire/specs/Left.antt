@@ -6,10 +6,11 @@ use lib.ListN.{length, getD, drop}
 use lib.Seq.{sets}
 use Rattle.order.specs.Map.{All}
 use Rattle.change.specs.Difference as change
-use Rattle.field.specs.declared.tag.Form.the-variants.{Delta}
+use Rattle.field.specs.declared.tag.Form.the-variants.{Snapshot, Delta}
 use Rattle.field.specs.declared.key.Key.{Key}
 use Rattle.field.specs.Places.{keyIn}
 use Rattle.payload.specs.Content.{Bytes}
+use Rattle.payload.specs.Limit.{limit}
 use Rattle.payload.specs.Valid.{Valid}
 use Rattle.item.specs.declared.place.Act.{Act}
 use Rattle.item.specs.declared.place.Act.the-variants.{Announce}
@@ -20,7 +21,7 @@ use Rattle.message.specs.declared.version.Version.{Version}
 use Rattle.message.specs.Message.{pdu}
 use Rattle.message.specs.Record.{messageOf}
 use Rattle.wire.specs.declared.tally.Tally.{Tally}
-use Rattle.wire.specs.declared.origins.Run.{Run}
+use Rattle.wire.specs.declared.origins.RunEnd.{RunEnd}
 use Rattle.wire.specs.Tally.{saying, plusAll}
 
 -- what was written with the messages of d behind it is what stood there before with those of d₀
@@ -32,7 +33,7 @@ pub record Left (v : Version) (t : Tally) (o : Bytes) (d : change.Delta Bytes By
 -- the good snapshot s was passed up to `at`, and this was counted
 pub record Listed (s : Bytes) (at : ℕ) (t : Tally) : Type 0 where
   pub ready : Ready Announced s at
-  pub small : length s ≤ 16_777_216
+  pub small : length s ≤ limit Snapshot
   pub len : t .len ≤ 8 + 1_056 * at
   pub announced : t .announced ≤ at
   pub withdrawn : t .withdrawn ≤ at
@@ -64,7 +65,7 @@ pub record OriginAt (s : Bytes) (at number : ℕ) : Type 0 where
   pub next : Ready Announced s (at + 26)
 
 -- the snapshot s was passed further, from `from` on, and the messages of what was passed were written
-pub record Passed (v : Version) (s : Bytes) (from : ℕ) (t : Tally) (o o′ : Bytes) (r : Run) : Type 0 where
+pub record Passed (v : Version) (s : Bytes) (from : ℕ) (t : Tally) (o o′ : Bytes) (r : RunEnd) : Type 0 where
   pub on : from ≤ r .at
   pub listed : Listed s (r .at) (r .tally)
   pub left : Left v (r .tally) o′ (readAs Announced (drop (r .at) s)) t o (readAs Announced (drop from s))

@@ -1,10 +1,10 @@
 -- How far the writing of an answer has come: what each part of it may assume, and what it leaves.
 use Prim.Native.Nat.{ℕ, _+_, _≤_}
 use mathlib.Core.Path.{_≡_}
-use mathlib.Core.List.{List, _++_}
+use mathlib.Core.List.{List}
 use mathlib.Core.Bool.{cond}
 use lib.Dec.{leb}
-use lib.ListN.{length, drop}
+use lib.ListN.{length}
 use lib.Seq.{sets}
 use Rattle.order.specs.Map.{All}
 use Rattle.change.specs.Difference as change
@@ -12,7 +12,9 @@ use Rattle.field.specs.declared.tag.Form.the-variants.{Snapshot, Delta}
 use Rattle.field.specs.declared.verdict.Verdict.the-variants.{Fine}
 use Rattle.field.specs.Verdict.{verdict}
 use Rattle.payload.specs.Content.{Bytes}
+use Rattle.payload.specs.Limit.{limit}
 use Rattle.payload.specs.Valid.{IsMap}
+use Rattle.payload.specs.Written.{writtenIfRoom}
 use Rattle.message.specs.declared.version.Version.{Version}
 use Rattle.message.specs.Version.{endLength}
 use Rattle.message.specs.Message.{cacheResponse, endOfData, pdu}
@@ -27,7 +29,7 @@ use Rattle.wire.specs.declared.sent.Sent.{Sent}
 use Rattle.wire.specs.declared.sent.Writing.{Writing}
 use Rattle.wire.specs.declared.sent.Writing.the-variants.{NoRoom, Whole}
 use Rattle.wire.specs.Answer.{answerBytes, tallyOf, refusedWith}
-use Rattle.wire.specs.Tally.{saying, plusAll, start, Room}
+use Rattle.wire.specs.Tally.{saying, plusAll, start, Countable}
 
 -- the Cache Response is written if there is room for it
 pub record OpenIs (v : Version) (f : Frame) (o o′ : Bytes) : Type 0 where
@@ -37,7 +39,7 @@ pub record OpenIs (v : Version) (f : Frame) (o o′ : Bytes) : Type 0 where
 -- the messages of D are written behind it, if there is room for all of them
 pub record LaidIs (v : Version) (D : change.Delta Bytes Bytes) (o o′ : Bytes) (r : Tally) : Type 0 where
   pub tally : r ≡ plusAll v start D
-  pub room : Room r
+  pub room : Countable r
   pub same : length o′ ≡ length o
   pub laid : 8 + length (saying v D) ≤ length o → o′ ≡ sets o 8 (saying v D)
 
@@ -62,7 +64,7 @@ abbrev pub writingOf : Version → Frame → change.Delta Bytes Bytes → ℕ �
 writingOf v f D room = cond (leb (length (answerBytes v f D)) room) (Whole (tallyOf v (answerBytes v f D) D)) NoRoom
 
 abbrev pub answerOut : Version → Frame → change.Delta Bytes Bytes → Bytes → Bytes
-answerOut v f D out = cond (leb (length (answerBytes v f D)) (length out)) (answerBytes v f D ++ drop (length (answerBytes v f D)) out) out
+answerOut v f D out = writtenIfRoom (answerBytes v f D) out
 
 -- the answer of what was written, or not
 abbrev pub sentOf : Frame → Writing → Sent
@@ -77,7 +79,7 @@ pub record Merges (s : Bytes) (at ends : List ℕ) (from n : ℕ) : Type 0 where
 -- a good snapshot within the limit
 pub record Holds (s : Bytes) : Type 0 where
   pub fine : verdict Snapshot s ≡ Fine
-  pub small : length s ≤ 16_777_216
+  pub small : length s ≤ limit Snapshot
 
 -- a history's snapshot, good and within the limit
 pub record Held (h : History) (snapshots : Bytes) : Type 0 where

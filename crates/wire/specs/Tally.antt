@@ -57,7 +57,7 @@ skipPlace t kind =
     (record { len = t .len; announced = t .announced; withdrawn = t .withdrawn; keys = t .keys; aspas = t .aspas + 1 })
 
 -- one more item can be counted
-pub record Room (t : Tally) : Type 0 where
+pub record Countable (t : Tally) : Type 0 where
   pub len : t .len < 2 ^ 62
   pub announced : t .announced < 2 ^ 62
   pub withdrawn : t .withdrawn < 2 ^ 62

@@ -13,7 +13,7 @@ use serial::timing::clamp;
 ghost use mathlib.Core.Path.{_≡_};
 ghost use lib.ListN.{length};
 ghost use Rattle.wire.specs.Answer.{frameOf};
-ghost use Rattle.wire.specs.Tally.{Room};
+ghost use Rattle.wire.specs.Tally.{Countable};
 ghost use Rattle.wire.specs.Put.{OpenIs, CloseIs};
 
 // The session, the serial and the times that an answer names.
@@ -48,7 +48,7 @@ pub(crate) fn open(version: Version, frame: Frame, out: &mut [u8])
 
 // The End of Data behind what was written so far, if there is room for it.
 pub(crate) fn close(version: Version, frame: Frame, out: &mut [u8], t: Tally) -> Tally
-    requires { ⌜ Room t ⌝ }
+    requires { ⌜ Countable t ⌝ }
     ensures { λ r. ⌜ CloseIs version frame t (now (out .entry)) (now (out .exit)) r ⌝ }
 {
     let size = end_length(version);

@@ -12,7 +12,7 @@ ghost use Rattle.pdu.specs.Write.{PutIs};
 ghost use Rattle.wire.specs.Left.{Listed, counted, OriginAt, originPdu, Passed};
 
 // Where a run of origins ends, and what was counted up to there.
-pub struct Run {
+pub struct RunEnd {
     pub at: usize,
     pub tally: Tally,
 }
@@ -56,10 +56,10 @@ fn put_six(version: Version, s: &[u8], at: usize, out: &mut [u8], i: usize) -> u
 }
 
 // What was counted, with another length and another number of announcements.
-fn run_to(at: usize, len: usize, announced: usize, t: Tally) -> Run
+fn run_to(at: usize, len: usize, announced: usize, t: Tally) -> RunEnd
     ensures { λ r. ⌜ r ≡ record { at = at; tally = counted t len announced } ⌝ }
 {
-    Run {
+    RunEnd {
         at,
         tally: Tally {
             len,
@@ -72,7 +72,7 @@ fn run_to(at: usize, len: usize, announced: usize, t: Tally) -> Run
 }
 
 // The messages of the IPv4 origins from `from` on, up to the first other field. An origin adds to two of the counts alone.
-fn put_fours(version: Version, s: &[u8], from: usize, out: &mut [u8], t: Tally) -> Run
+fn put_fours(version: Version, s: &[u8], from: usize, out: &mut [u8], t: Tally) -> RunEnd
     requires { ⌜ Listed (now s) from t ⌝ }
     ensures { λ r. ⌜ Passed version (now (s .entry)) from t (now (out .entry)) (now (out .exit)) r ⌝ }
 {
@@ -89,7 +89,7 @@ fn put_fours(version: Version, s: &[u8], from: usize, out: &mut [u8], t: Tally) 
 }
 
 // The same of the IPv6 origins.
-fn put_sixes(version: Version, s: &[u8], from: usize, out: &mut [u8], t: Tally) -> Run
+fn put_sixes(version: Version, s: &[u8], from: usize, out: &mut [u8], t: Tally) -> RunEnd
     requires { ⌜ Listed (now s) from t ⌝ }
     ensures { λ r. ⌜ Passed version (now (s .entry)) from t (now (out .entry)) (now (out .exit)) r ⌝ }
 {
@@ -106,7 +106,13 @@ fn put_sixes(version: Version, s: &[u8], from: usize, out: &mut [u8], t: Tally) 
 }
 
 // The messages of the origins from `from` on: in a snapshot those of IPv4 stand in front of those of IPv6.
-pub(crate) fn put_origins(version: Version, s: &[u8], from: usize, out: &mut [u8], t: Tally) -> Run
+pub(crate) fn put_origins(
+    version: Version,
+    s: &[u8],
+    from: usize,
+    out: &mut [u8],
+    t: Tally,
+) -> RunEnd
     requires { ⌜ Listed (now s) from t ⌝ }
     ensures { λ r. ⌜ Passed version (now (s .entry)) from t (now (out .entry)) (now (out .exit)) r ⌝ }
 {

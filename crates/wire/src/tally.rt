@@ -9,7 +9,7 @@ use pdu::record::put_message;
 ghost use mathlib.Core.Path.{_≡_};
 ghost use Prim.Native.Nat.{_≤_};
 ghost use Rattle.item.specs.Place.{itemIn};
-ghost use Rattle.wire.specs.Tally.{Room, Says, plusPlace, skipPlace, ItemIs};
+ghost use Rattle.wire.specs.Tally.{Countable, Says, plusPlace, skipPlace, ItemIs};
 
 // The bytes of all messages, how many of them announce and withdraw, and the items that there is no message for.
 pub struct Tally {
@@ -22,7 +22,7 @@ pub struct Tally {
 
 // One message more, of these flags and this size.
 fn plus(t: Tally, flags: u8, size: usize) -> Tally
-    requires { ⌜ Room t × ((flags ≤ 1) × (size ≤ 1056)) ⌝ }
+    requires { ⌜ Countable t × ((flags ≤ 1) × (size ≤ 1056)) ⌝ }
     ensures { λ r. ⌜ r ≡ plusPlace t flags size ⌝ }
 {
     let announces = wide(flags);
@@ -37,7 +37,7 @@ fn plus(t: Tally, flags: u8, size: usize) -> Tally
 
 // One item more that there is no message for.
 fn skip(t: Tally, kind: u8) -> Tally
-    requires { ⌜ Room t ⌝ }
+    requires { ⌜ Countable t ⌝ }
     ensures { λ r. ⌜ r ≡ skipPlace t kind ⌝ }
 {
     if kind == 2 {
@@ -67,7 +67,7 @@ pub(crate) fn put_item(
     out: &mut [u8],
     t: Tally,
 ) -> Tally
-    requires { ⌜ Says (now s) key act × Room t ⌝ }
+    requires { ⌜ Says (now s) key act × Countable t ⌝ }
     ensures { λ r. ⌜ ItemIs version (itemIn (now (s .entry)) (now (s .entry)) key act) t (now (out .entry)) (now (out .exit)) r ⌝ }
 {
     if !is_spoken(version, key.kind) {

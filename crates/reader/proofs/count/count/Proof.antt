@@ -60,8 +60,9 @@ use Rattle.field.proofs.head.Field.Laws as F′
 use Rattle.reader.specs.declared.DeltaReader.{DeltaReader}
 use Rattle.reader.specs.declared.count.Tally.{Tally}
 use Rattle.reader.specs.Step.{start, behind, found, stepped}
-use Rattle.reader.specs.Count as count-specs
-use Rattle.reader.specs.Count.{isOver, plusField, tallyOf}
+use Rattle.reader.specs.Count.{tallyOf}
+use Rattle.reader.specs.Counting as count-specs
+use Rattle.reader.specs.Counting.{isOver, plusField}
 use Rattle.reader.proofs.Counting.{Counted, More, counted-start, counted-all, counted-more}
 use Rattle.reader.proofs.DeltaReader as T
 use Rattle.reader.proofs.DeltaReader.Laws as T′
@@ -234,7 +235,7 @@ module _ {M : Type 1} (𝓤 : URA M) (H : Heap 𝓤) (A : Atoms 𝓤) (W : Given
   abbrev to-plus : Tally → Val → Field → Val → Plus 𝓤 H A mem′ run .Ghost
   to-plus c w f u = ((tt, tt, tt, (c, (f, tt)), (w ∷ [], (u ∷ [], tt))), tt)
 
-  goes-plus : (c : Tally) (w : Val) (f : Field) (u : Val) → Is N.the-row c (w ∷ []) → Is F.the-row f (u ∷ []) → count-specs.Room c → ent 𝓤 (emp 𝓤) (Plus 𝓤 H A mem′ run .pre (to-plus c w f u))
+  goes-plus : (c : Tally) (w : Val) (f : Field) (u : Val) → Is N.the-row c (w ∷ []) → Is F.the-row f (u ∷ []) → count-specs.Countable c → ent 𝓤 (emp 𝓤) (Plus 𝓤 H A mem′ run .pre (to-plus c w f u))
   goes-plus c w f u isc isf room =
       qed W [] ∵ says ! room $ nothing ! $ owned ! F.the-row (Is F.the-row) (EL.makes F.the-type F′.the-plain 𝓤 H A) f (u ∷ []) isf $ fjoin ! $
       owned ! N.the-row (Is N.the-row) (LL.makes N.the-type N′.the-plain 𝓤 H A) c (w ∷ []) isc $ fjoin ! $ nothing ! $ done !
@@ -363,7 +364,7 @@ module _ {M : Type 1} (𝓤 : URA M) (H : Heap 𝓤) (A : Atoms 𝓤) (W : Given
           more : (f : Field) {r : DeltaReader} → Found n f r → (y : Bool) → y ≡ isOver f → Holds (not y) → More (now s) n f c
           more f e y e′ other = counted-more (now s) n f (e .0) c (h .1 .0) (sym e′ ∙ fails y other)
 
-          room : {f : Field} → More (now s) n f c → count-specs.Room c
+          room : {f : Field} → More (now s) n f c → count-specs.Countable c
           room m = let a = h .1 .0 .few in let b = h .1 .0 .fewer in let g = m .room in record { announced = omega arith; withdrawn = omega arith }
 
           less : (f : Field) → f ≡ found (at n) → More (now s) n f c → length (now s) - behind (found (at n)) n < t
