@@ -11,7 +11,7 @@ use Rattle.change.specs.Difference.{diff}
 use Rattle.change.specs.Application.{Applies}
 use Rattle.change.proofs.Whole.{yields, applies, diff-nil, nil-diff}
 use Rattle.change.proofs.Items.{ItemFits, items-fit}
-use Rattle.field.specs.declared.tag.Form.the-variants.{Snapshot, Delta}
+use Rattle.body.specs.declared.tag.Form.the-variants.{Snapshot, Delta}
 use Rattle.field.specs.declared.verdict.Verdict.the-variants.{Fine}
 use Rattle.field.specs.Verdict.{verdict}
 use Rattle.field.specs.Cells.{Cell, cells}

@@ -10,7 +10,7 @@ use Rattle.change.specs.Merge.{merge}
 use Rattle.change.specs.Application.{apply}
 use Rattle.serial.specs.declared.Serial.{Serial}
 use Rattle.serial.specs.Serial.{nextOf}
-use Rattle.field.specs.declared.tag.Form.the-variants.{Snapshot, Delta}
+use Rattle.body.specs.declared.tag.Form.the-variants.{Snapshot, Delta}
 use Rattle.payload.specs.Content.{Bytes}
 use Rattle.payload.specs.Payload.{encode, items, changes}
 use Rattle.payload.specs.Count.{announced, withdrawn}

@@ -10,11 +10,11 @@ use Rattle.change.specs.History.{newest}
 use Rattle.change.specs.Short.{Part}
 use Rattle.change.specs.Grouping.{Grouping, leaves, mergeTree, steps}
 use Rattle.serial.specs.declared.Serial.{Serial}
-use Rattle.field.specs.declared.tag.Form.the-variants.{Delta}
+use Rattle.number.specs.Bytes.{AllBytes}
+use Rattle.body.specs.declared.tag.Form.the-variants.{Delta}
 use Rattle.field.specs.declared.verdict.Verdict.the-variants.{Fine}
 use Rattle.field.specs.Verdict.{verdict}
 use Rattle.field.specs.Cells.{cells}
-use Rattle.field.specs.Run.{AllBytes}
 use Rattle.payload.specs.Content.{Bytes}
 use Rattle.payload.specs.Count.{countTags, announced, withdrawn}
 use Rattle.payload.specs.Limit.{limit}

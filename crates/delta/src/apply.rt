@@ -2,7 +2,7 @@
 use crate::admit::Admitted;
 use crate::admit::admit;
 use crate::refusal::Refusal;
-use field::tag::Form;
+use body::tag::Form;
 use item::reading::Reading;
 use walk::fit::Fit;
 use walk::fit::first_misfit;

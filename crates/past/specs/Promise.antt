@@ -16,10 +16,10 @@ use Rattle.serial.specs.declared.Session.{Session}
 use Rattle.serial.specs.declared.order.Standing.the-variants.{Equal, Before, Unordered}
 use Rattle.serial.specs.Serial.{distanceOf, sessionOf}
 use Rattle.serial.specs.Rfc1982.{standing}
-use Rattle.field.specs.declared.tag.Form.the-variants.{Snapshot, Delta}
+use Rattle.number.specs.Bytes.{AllBytes}
+use Rattle.body.specs.declared.tag.Form.the-variants.{Snapshot, Delta}
 use Rattle.field.specs.declared.verdict.Verdict.the-variants.{Bad, Senseless, NotAbove}
 use Rattle.field.specs.Verdict.{verdict}
-use Rattle.field.specs.Run.{AllBytes}
 use Rattle.payload.specs.Content.{Bytes}
 use Rattle.payload.specs.Payload.{items, changes}
 use Rattle.payload.specs.Limit.{limit}

@@ -17,10 +17,10 @@ use Rattle.change.specs.Change.{Change, announce}
 use Rattle.change.specs.Difference as change
 use Rattle.change.specs.Application.{fits, isEqual}
 use Rattle.change.proofs.Whole.{asNew, diff-new}
-use Rattle.field.specs.declared.tag.Form.the-variants as form
+use Rattle.number.specs.Bytes.{AllBytes}
+use Rattle.body.specs.declared.tag.Form.the-variants as form
 use Rattle.field.specs.Cells.{Cell, cells}
 use Rattle.field.specs.Places.{keyIn}
-use Rattle.field.specs.Run.{AllBytes}
 use Rattle.payload.specs.Content.{Bytes, entryOf}
 use Rattle.payload.specs.Payload.{entries, items, changes}
 use Rattle.payload.proofs.Faithful.{Read, read}

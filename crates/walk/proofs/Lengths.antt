@@ -19,9 +19,10 @@ use Rattle.order.proofs.Walk.{walk-nil, walk-left, walk-right, walk-less, walk-
 use Rattle.change.specs.Change.{Change, announce, withdraw, update, unlessEqual, replace}
 use Rattle.change.specs.Difference as change
 use Rattle.change.specs.Merge.{table, mergeAt, merge}
-use Rattle.field.specs.declared.tag.Form.{Form}
+use Rattle.number.specs.Bytes.{AllBytes}
+use Rattle.body.specs.declared.tag.Form.{Form}
 use Rattle.field.specs.Cells.{Cell, cells, field, encode}
-use Rattle.field.specs.Run.{AllBytes, Run, GoodAt, done, more}
+use Rattle.field.specs.Run.{Run, GoodAt, done, more}
 use Rattle.field.proofs.Fronts.{shorter}
 use Rattle.field.proofs.Encode.{field-front, rest-bytes}
 use Rattle.field.proofs.Run.{cells-end, cells-more}

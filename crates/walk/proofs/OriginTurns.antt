@@ -20,18 +20,18 @@ use Rattle.order.proofs.Walk.{walk-less, walk-equal, walk-greater}
 use Rattle.change.specs.Change.{Change, announce, withdraw}
 use Rattle.change.specs.Difference as change
 use Rattle.change.specs.Merge.{table, mergeAt, merge}
-use Rattle.field.specs.declared.tag.Form.the-variants.{Delta}
-use Rattle.field.specs.Number.{twoAt}
-use Rattle.field.specs.Origin.{goodOrigin}
-use Rattle.field.specs.Tag.{tagOf, kindOf, goodBody}
+use Rattle.number.specs.Number.{twoAt}
+use Rattle.number.specs.Bytes.{part, AllBytes}
+use Rattle.body.specs.declared.tag.Form.the-variants.{Delta}
+use Rattle.body.specs.Origin.{goodOrigin}
+use Rattle.body.specs.Tag.{tagOf, kindOf, goodBody}
+use Rattle.body.proofs.Sizes.{origin-size}
 use Rattle.field.specs.Key.{keyOf}
 use Rattle.field.specs.Cells.{Cell, field, encode}
-use Rattle.field.specs.Places.{part}
-use Rattle.field.specs.Progress.{If}
-use Rattle.field.specs.Run.{AllBytes, GoodAt}
+use Rattle.field.specs.If.{If}
+use Rattle.field.specs.Run.{GoodAt}
 use Rattle.field.proofs.Common.{Found}
 use Rattle.field.proofs.Encode.{field-front}
-use Rattle.field.proofs.Sizes.{origin-size}
 use Rattle.payload.specs.Content.{Bytes, entryOf, cellFor}
 use Rattle.payload.specs.Payload.{entries, changes}
 use Rattle.payload.specs.Count.{announces, withdraws, sumOf}

@@ -14,13 +14,14 @@ use Rattle.change.specs.Change.{Change}
 use Rattle.change.specs.Difference as change
 use Rattle.change.specs.Merge.{mergeAt, merge}
 use Rattle.change.proofs.Whole.{asNew, diff-new}
-use Rattle.field.specs.declared.tag.Form.{Form}
-use Rattle.field.specs.declared.tag.Form.the-variants.{Snapshot, Delta}
-use Rattle.field.specs.Tag.{goodBody, kindOf}
+use Rattle.number.specs.Bytes.{AllBytes}
+use Rattle.body.specs.declared.tag.Form.{Form}
+use Rattle.body.specs.declared.tag.Form.the-variants.{Snapshot, Delta}
+use Rattle.body.specs.Tag.{goodBody, kindOf}
+use Rattle.body.proofs.Digits.{snapshot-kind}
 use Rattle.field.specs.Key.{keyOf}
 use Rattle.field.specs.Cells.{Cell, cells, field, encode}
-use Rattle.field.specs.Run.{AllBytes, Run, GoodAt, done, more}
-use Rattle.field.proofs.Digits.{snapshot-kind}
+use Rattle.field.specs.Run.{Run, GoodAt, done, more}
 use Rattle.field.proofs.Encode.{field-front, rest-bytes}
 use Rattle.field.proofs.Run.{cells-end, cells-more}
 use Rattle.payload.specs.Content.{Bytes, cellFor, entryOf}

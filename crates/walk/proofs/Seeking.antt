@@ -14,18 +14,19 @@ use Rattle.order.specs.Comparison.{bytes}
 use Rattle.order.specs.Map.{Item, All, Below}
 use Rattle.change.specs.Change.{Change}
 use Rattle.change.specs.Difference as change
-use Rattle.field.specs.declared.tag.Form.{Form}
-use Rattle.field.specs.declared.tag.Form.the-variants.{Snapshot, Delta}
-use Rattle.field.specs.Number.{twoAt, wordAt}
-use Rattle.field.specs.declared.tag.Tag.{Tag}
-use Rattle.field.specs.declared.tag.Tag.the-variants.{Unknown, Origin, RouterKey, Aspa}
-use Rattle.field.specs.Tag.{tagOf, kindNumber, kindOf}
+use Rattle.number.specs.Number.{twoAt, wordAt}
+use Rattle.number.specs.Bytes.{AllBytes}
+use Rattle.body.specs.declared.tag.Form.{Form}
+use Rattle.body.specs.declared.tag.Form.the-variants.{Snapshot, Delta}
+use Rattle.body.specs.declared.tag.Tag.{Tag}
+use Rattle.body.specs.declared.tag.Tag.the-variants.{Unknown, Origin, RouterKey, Aspa}
+use Rattle.body.specs.Tag.{tagOf, kindNumber, kindOf}
+use Rattle.body.proofs.Digits.{snapshot-kind, delta-kind}
 use Rattle.field.specs.Head.{whole, front}
 use Rattle.field.specs.Key.{keyOf}
 use Rattle.field.specs.Cells.{Cell, cells}
-use Rattle.field.specs.Run.{AllBytes, GoodAt}
+use Rattle.field.specs.Run.{GoodAt}
 use Rattle.field.proofs.Fronts.{opens}
-use Rattle.field.proofs.Digits.{snapshot-kind, delta-kind}
 use Rattle.field.proofs.Run.{cells-more, cells-end}
 use Rattle.field.proofs.Common.{front-same, Found, found, found-origin, good-behind}
 use Rattle.payload.specs.Content.{Bytes, entryOf}

@@ -18,12 +18,12 @@ use Rattle.order.proofs.Comparison.{strings}
 use Rattle.order.proofs.Walk.{walk-equal}
 use Rattle.change.specs.Change.{Change, update, unlessEqual}
 use Rattle.change.specs.Merge.{mergeAt, merge}
-use Rattle.field.specs.declared.tag.Form.the-variants.{Snapshot}
-use Rattle.field.specs.Number.{wordAt, twoAt}
+use Rattle.number.specs.Number.{wordAt, twoAt}
+use Rattle.number.proofs.Values.{word-bytes}
+use Rattle.body.specs.declared.tag.Form.the-variants.{Snapshot}
 use Rattle.field.specs.Head.{whole, front}
 use Rattle.field.specs.Cells.{Cell}
-use Rattle.field.specs.Progress.{If}
-use Rattle.field.proofs.Masks.{word-bytes}
+use Rattle.field.specs.If.{If}
 use Rattle.field.proofs.Run.{cells-more}
 use Rattle.field.proofs.Common.{front-same, Found, found, found-origin, good-behind}
 use Rattle.payload.specs.Content.{Bytes, entryOf}

@@ -18,7 +18,7 @@ use Rattle.change.specs.Change.{Change, announce, withdraw, update}
 use Rattle.change.specs.Difference as change
 use Rattle.change.specs.Merge.{table, mergeAt, merge}
 use Rattle.change.proofs.Whole.{merge-later, merge-earlier}
-use Rattle.field.specs.declared.tag.Form.{Form}
+use Rattle.body.specs.declared.tag.Form.{Form}
 use Rattle.field.specs.declared.key.Key.{Key}
 use Rattle.field.specs.Cells.{encode}
 use Rattle.field.specs.Places.{keyIn}

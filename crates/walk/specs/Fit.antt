@@ -7,7 +7,7 @@ use Rattle.order.specs.Comparison.{bytes}
 use Rattle.order.specs.Map.{lookup}
 use Rattle.change.specs.Difference.{Snapshot}
 use Rattle.change.specs.Application.{fits}
-use Rattle.field.specs.declared.tag.Form.the-variants.{Delta}
+use Rattle.body.specs.declared.tag.Form.the-variants.{Delta}
 use Rattle.field.specs.Cells.{Cell, cells}
 use Rattle.payload.specs.Content.{Bytes, entryOf}
 use Rattle.payload.specs.Payload.{items}

@@ -6,7 +6,7 @@ use lib.ListN.{length, drop}
 use Rattle.order.specs.Map.{Item, All}
 use Rattle.change.specs.Change.{Change}
 use Rattle.change.specs.Difference as change
-use Rattle.field.specs.Run.{AllBytes}
+use Rattle.number.specs.Bytes.{AllBytes}
 use Rattle.payload.specs.Content.{Bytes}
 use Rattle.payload.specs.Payload.{items, changes}
 use Rattle.item.specs.declared.reading.Reading.the-variants.{Announced}

@@ -10,7 +10,7 @@ use Rattle.order.specs.Comparison.{bytes}
 use Rattle.order.specs.Walk.{emit}
 use Rattle.change.specs.Difference.{Delta}
 use Rattle.change.specs.Merge.{table, merge}
-use Rattle.field.specs.declared.tag.Form.{Form}
+use Rattle.body.specs.declared.tag.Form.{Form}
 use Rattle.field.specs.Places.{keyIn}
 use Rattle.payload.specs.Content.{Bytes}
 use Rattle.item.specs.declared.place.Entry.{Entry}

@@ -4,12 +4,12 @@ use crate::origins::put_origins;
 use crate::seek::bound_at;
 use crate::seek::seek;
 use crate::skip::skip;
-use field::tag::Form;
+use body::tag::Form;
 use item::copy::copy;
 use item::place::Part;
 use item::reading::Reading;
 use item::sink::Counts;
-ghost use Rattle.field.specs.declared.tag.Form.the-variants.{Snapshot};
+ghost use Rattle.body.specs.declared.tag.Form.the-variants.{Snapshot};
 ghost use Rattle.item.specs.declared.reading.Reading.the-variants.{Announced, Changes};
 ghost use Rattle.walk.specs.Walk.{Stands, Wrote};
 

@@ -1,11 +1,11 @@
 // The run of a snapshot's items that stand below a delta's next item: it stays as it lies.
-use field::number::two_at;
-use field::number::word_at;
 use item::front::front_in;
+use number::two_at;
+use number::word_at;
 ghost use mathlib.Core.Path.{_≡_};
 ghost use Prim.Native.Nat.{_+_, _<_};
 ghost use lib.ListN.{length};
-ghost use Rattle.field.specs.Number.{twoAt};
+ghost use Rattle.number.specs.Number.{twoAt};
 ghost use Rattle.item.specs.declared.reading.Reading.the-variants.{Announced, Changes};
 ghost use Rattle.item.specs.Reading.{Ready};
 ghost use Rattle.walk.specs.Seek.{Bounds, Seeks};

@@ -1,11 +1,11 @@
 // The run of fields that two snapshots have in common: it is no part of their difference.
-use field::number::lower;
-use field::number::two_at;
-use field::number::word_at;
 use item::reading::Reading;
+use number::lower;
+use number::two_at;
+use number::word_at;
 ghost use Prim.Native.Nat.{_+_, _≤_};
 ghost use lib.ListN.{length};
-ghost use Rattle.field.specs.Progress.{If};
+ghost use Rattle.field.specs.If.{If};
 ghost use Rattle.item.specs.Reading.{Ready};
 ghost use Rattle.walk.specs.Skip.{SameAt, Agrees, Common, Skips};
 

@@ -4,7 +4,7 @@ use crate::pass::put_pass;
 use crate::turn::Side;
 use crate::turn::Turn;
 use crate::turn::take_turn;
-use field::tag::Form;
+use body::tag::Form;
 use item::place::Entry;
 use item::place::Held;
 use item::reading::Read;
