@@ -20,8 +20,8 @@ use Rattle.payload.specs.Content.{Bytes, entryOf}
 use Rattle.payload.specs.Valid.{IsMap}
 use Rattle.payload.specs.Payload.{entries, encode, items, changes}
 use Rattle.payload.proofs.Faithful.{faithful, one-form, entries-end}
-use Rattle.walk.specs.declared.fit.Fit.the-variants.{All}
-use Rattle.walk.specs.Fit.{misfit, fitOf}
+use Rattle.fit.specs.declared.Fit.the-variants.{All}
+use Rattle.fit.specs.Fit.{misfit, fitOf}
 use Rattle.delta.specs.Answer.{differenceOf, appliedOf}
 use Rattle.delta.specs.Demand.{GoodSnapshot}
 use Rattle.payload.proofs.Closed.{diff-map}

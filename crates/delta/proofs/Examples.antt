@@ -18,8 +18,8 @@ use Rattle.field.specs.Cells as run
 use Rattle.payload.specs.Content.{Bytes}
 use Rattle.payload.specs.Count.{announced}
 use Rattle.payload.specs.Payload.{entries, encode}
-use Rattle.walk.specs.declared.fit.Fit.the-variants.{Misfit}
-use Rattle.walk.specs.Fit.{misfit, fitOf}
+use Rattle.fit.specs.declared.Fit.the-variants.{Misfit}
+use Rattle.fit.specs.Fit.{misfit, fitOf}
 use Rattle.delta.specs.declared.refusal.Refusal.the-variants.{Bad, Senseless}
 use Rattle.delta.specs.declared.admit.Admitted.the-variants.{Yes, No}
 use Rattle.delta.specs.Admission.{admitOneOf, admitOf}

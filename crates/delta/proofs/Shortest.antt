@@ -27,9 +27,9 @@ use Rattle.payload.specs.Content.{Bytes, cellFor}
 use Rattle.payload.specs.Payload.{entries, encode, items, changes}
 use Rattle.payload.specs.Limit.{limit}
 use Rattle.payload.proofs.Faithful.{faithful}
-use Rattle.walk.specs.declared.fit.Fit.{Fit}
-use Rattle.walk.specs.declared.fit.Fit.the-variants.{All, Misfit}
-use Rattle.walk.specs.Fit.{fitOf}
+use Rattle.fit.specs.declared.Fit.{Fit}
+use Rattle.fit.specs.declared.Fit.the-variants.{All, Misfit}
+use Rattle.fit.specs.Fit.{fitOf}
 use Rattle.delta.specs.declared.admit.Admitted.{Admitted}
 use Rattle.delta.specs.declared.admit.Admitted.the-variants.{Yes, No}
 use Rattle.delta.specs.declared.apply.Applied.the-variants as applied

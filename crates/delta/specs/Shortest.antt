@@ -18,8 +18,8 @@ use Rattle.field.specs.Cells.{cells}
 use Rattle.payload.specs.Content.{Bytes}
 use Rattle.payload.specs.Count.{countTags, announced, withdrawn}
 use Rattle.payload.specs.Limit.{limit}
-use Rattle.walk.specs.declared.fit.Fit.the-variants.{All}
-use Rattle.walk.specs.Fit.{fitOf}
+use Rattle.fit.specs.declared.Fit.the-variants.{All}
+use Rattle.fit.specs.Fit.{fitOf}
 use Rattle.delta.specs.declared.merge.Merged.{Merged}
 use Rattle.delta.specs.declared.merge.Merged.the-variants as merged
 use Rattle.delta.specs.declared.apply.Applied.the-variants as applied

@@ -42,7 +42,7 @@ use Rattle.item.specs.Reading.{Ready, FieldIs, Reads}
 use Rattle.item.proofs.Fronts.{front-less, drop-bytes, take-bytes, cons-bytes}
 use Rattle.item.proofs.Heres.{here, cell, said, front-is}
 use Rattle.item.proofs.Heres as heres
-use Rattle.walk.specs.Seek.{Seeks}
+use Rattle.turn.specs.Seek.{Seeks}
 use Rattle.walk.proofs.Lengths.{body-bytes}
 use Rattle.heard.specs.Place.{typeAt, sizeAt, keyAt, Payload, Sized, v4, v6, key}
 use Rattle.heard.specs.Field.{recordField}

@@ -10,7 +10,7 @@ use item::reading::Reading;
 use item::reading::read_at;
 use number::word_at;
 use order::Ordering;
-use walk::seek::seek;
+use turn::seek::seek;
 ghost use mathlib.Core.Path.{_≡_};
 ghost use Prim.Native.Nat.{_≤_};
 ghost use lib.ListN.{length};

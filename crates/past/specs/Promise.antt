@@ -23,9 +23,9 @@ use Rattle.field.specs.Verdict.{verdict}
 use Rattle.payload.specs.Content.{Bytes}
 use Rattle.payload.specs.Payload.{items, changes}
 use Rattle.payload.specs.Limit.{limit}
-use Rattle.walk.specs.declared.fit.Fit.the-variants.{All}
+use Rattle.fit.specs.declared.Fit.the-variants.{All}
 use Rattle.item.specs.declared.sink.Counts.{Counts}
-use Rattle.walk.specs.Fit.{fitOf}
+use Rattle.fit.specs.Fit.{fitOf}
 use Rattle.delta.specs.Refusal.{Values}
 use Rattle.delta.specs.Answer.{differenceOf, appliedOf, countsOf}
 use Rattle.delta.specs.Demand.{Acceptable, holding}

@@ -47,7 +47,8 @@ use Rattle.item.proofs.Putting.{counts-path}
 use Rattle.walk.specs.declared.pass.Stand.{Stand}
 use Rattle.walk.specs.declared.origins.OriginStep.{OriginStep}
 use Rattle.walk.specs.declared.origins.OriginStep.the-variants.{Other, On}
-use Rattle.walk.specs.Walk.{leftOf, Stands, Wrote}
+use Rattle.turn.specs.Left.{leftOf}
+use Rattle.walk.specs.Walk.{Stands, Wrote}
 use Rattle.walk.specs.Origins.{originOf, OriginAt, Countable, bothOrigins, BothAt, Turns, OriginStepMeans, OriginStepIs}
 use Rattle.item.proofs.Heres.{here, cell, next, reads, said, behind, within, lies}
 use Rattle.walk.proofs.Walking.{plus-nil, writes-nil, then}

@@ -39,11 +39,12 @@ use Rattle.item.specs.Write.{cellAs, fieldAs, writes, plusAll}
 use Rattle.item.proofs.Fronts.{front-less, drop-bytes}
 use Rattle.item.proofs.Putting.{counts-path}
 use Rattle.item.proofs.Readings.{says-nil, says-cons}
-use Rattle.walk.specs.declared.seek.Sought.{Sought}
+use Rattle.turn.specs.declared.seek.Sought.{Sought}
 use Rattle.walk.specs.declared.pass.Stand.{Stand}
-use Rattle.walk.specs.Seek.{Bounds, Seeks}
-use Rattle.walk.specs.Skip.{Skips}
-use Rattle.walk.specs.Walk.{leftOf, Stands, Wrote}
+use Rattle.turn.specs.Seek.{Bounds, Seeks}
+use Rattle.turn.specs.Skip.{Skips}
+use Rattle.turn.specs.Left.{leftOf}
+use Rattle.walk.specs.Walk.{Stands, Wrote}
 use Rattle.walk.proofs.Lengths.{body-bytes}
 use Rattle.walk.proofs.Walking.{plus-nil, writes-nil, writes-append, walk-left-first}
 

@@ -17,7 +17,8 @@ use Rattle.item.specs.declared.place.Entry.{Entry}
 use Rattle.payload.specs.Count.{announces, withdraws, sumOf}
 use Rattle.item.specs.declared.sink.Counts.{Counts}
 use Rattle.item.specs.declared.reading.Reading.{Reading}
-use Rattle.walk.specs.declared.turn.Side.the-variants as side
+use Rattle.turn.specs.Left.{leftOf}
+use Rattle.turn.specs.declared.turn.Side.the-variants as side
 use Rattle.walk.specs.declared.walk.Step.{Step}
 use Rattle.walk.specs.declared.walk.Step.the-variants.{Over, On}
 use Rattle.walk.specs.declared.walk.Output.{Output}
@@ -41,10 +42,6 @@ pub record Passed (c : Counts) (at size : ℕ) : Type 0 where
   pub len : c .len ≤ 40_000 * (33_554_432 + at)
   pub announced : c .announced ≤ 33_554_432 + at
   pub withdrawn : c .withdrawn ≤ 33_554_432 + at
-
--- what is left to be merged of a from i on and of b from j on
-abbrev pub leftOf : Reading → Bytes → ℕ → Reading → Bytes → ℕ → Delta Bytes Bytes
-leftOf ra a i rb b j = merge bytes bytes (readAs ra (drop i a)) (readAs rb (drop j b))
 
 -- what was left at i and j is what was written and what is left at p and q; no more was written than was passed: at most
 -- 40,000 bytes and one item for each byte

@@ -1,9 +1,6 @@
 // The walk over two runs: both read as changes, merged, and written. A difference is the merge of everything old
 // withdrawn with everything new announced; an application that of everything held announced with the delta.
 use crate::pass::put_pass;
-use crate::turn::Side;
-use crate::turn::Turn;
-use crate::turn::take_turn;
 use body::tag::Form;
 use item::place::Entry;
 use item::place::Held;
@@ -13,6 +10,9 @@ use item::reading::read_at;
 use item::sink::Counts;
 use item::sink::put_item;
 use item::table::merged;
+use turn::turn::Side;
+use turn::turn::Turn;
+use turn::turn::take_turn;
 ghost use mathlib.Core.Path.{_≡_};
 ghost use mathlib.Core.List.{_∷_, []};
 ghost use lib.ListN.{length, drop};
