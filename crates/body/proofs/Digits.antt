@@ -1,7 +1,7 @@
 -- Kinds and tags: what fields are ordered by first is the tag in a snapshot, and the tag's first hex digit in a delta.
 use Prim.Native.Nat.{ℕ, _/_}
 use mathlib.Core.Path.{_≡_, refl, ap, sym, _∙_}
-use mathlib.Core.List.{List, [], _∷_}
+use mathlib.Core.List.{List}
 use mathlib.Core.Bool.{Bool, true, false, cond, false≢true}
 use borrow.Author.Tests.{eqb-true}
 use lib.Dec.{eqb}
@@ -10,7 +10,7 @@ use Rattle.body.specs.declared.tag.Form.the-variants.{Snapshot, Delta}
 use Rattle.body.specs.declared.tag.Action.the-variants.{Hold, Announce, Withdraw, Update}
 use Rattle.body.specs.declared.tag.Tag.{Tag}
 use Rattle.body.specs.declared.tag.Tag.the-variants.{Unknown, Origin, RouterKey, Aspa}
-use Rattle.body.specs.Tag.{tagOf, kindNumber, kindOf, goodTagged, goodBody}
+use Rattle.body.specs.Tag.{tagOf, kindNumber, kindOf, goodBody}
 
 -- under a good body the tag is known
 pub known : (form : Form) (tag : ℕ) (b : List ℕ) → goodBody form tag b ≡ true → tagOf form tag ≡ Unknown → ⊥

@@ -1,5 +1,5 @@
 -- The bits of an address past its prefix, by words of eight bytes.
-use Prim.Native.Nat.{ℕ, zero, suc, _+_, _-_, _*_, _/_, _%_, _^_, _<_, _≤_}
+use Prim.Native.Nat.{ℕ, zero, suc, _+_, _-_, _*_, _%_, _^_, _<_, _≤_}
 use mathlib.Core.Path.{_≡_, refl, sym, ap, _∙_}
 use mathlib.Core.List.{List, [], _∷_, _++_}
 use mathlib.Core.Bool.{Bool, true, false, _&&_}
@@ -13,7 +13,7 @@ use lib.Dec.{eqb}
 use lib.Pow.{pow-pos, pow-add}
 use lib.Arith.{digits-lt, digits-div, digits-mod, mod-mul}
 use lib.ListN.{length, getD, take, drop, length-drop}
-use lib.Seq.{drop-cons, drop-drop, take-add, length-take-le}
+use lib.Seq.{drop-drop, take-add, length-take-le}
 use Rattle.number.specs.Number.{wordAt}
 use Rattle.number.proofs.Eights.{Octets}
 use Rattle.number.proofs.Values.{AllBelow, value, value-lt, eight, eight-is, below, word-value}

@@ -1,7 +1,7 @@
 -- A field of a good run as a walk over bytes meets it, and the same field at another place.
 use Prim.Native.Nat.{ℕ, _+_, _<_, _≤_}
 use mathlib.Core.Path.{_≡_, refl, sym, ap, _∙_}
-use mathlib.Core.List.{List, [], _∷_, _++_}
+use mathlib.Core.List.{List, _∷_, _++_}
 use mathlib.Core.Bool.{true}
 use native.Mathlib.Omega.{arith}
 use borrow.Author.Tests.{le-leb}
@@ -11,7 +11,6 @@ use Rattle.order.specs.Comparison.{bytes}
 use Rattle.number.specs.Number.{two, twoAt}
 use Rattle.body.specs.declared.tag.Form.{Form}
 use Rattle.body.specs.declared.tag.Form.the-variants.{Snapshot}
-use Rattle.body.specs.Origin.{goodOrigin}
 use Rattle.body.specs.Tag.{tagOf, goodBody}
 use Rattle.body.proofs.Sizes.{origin-size}
 use Rattle.field.specs.Head.{Front, end, cut, whole, front}

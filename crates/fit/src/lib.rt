@@ -1,6 +1,5 @@
 // Whether a delta can be applied to a snapshot: the first item that cannot is named.
 use item::place::Act;
-use item::place::Entry;
 use item::place::Part;
 use item::reading::Read;
 use item::reading::Reading;

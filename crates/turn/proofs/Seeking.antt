@@ -1,40 +1,27 @@
 -- Laws of the search for a delta's next item in a snapshot.
 use Prim.Native.Nat.{ℕ, _+_, _-_, _/_, _^_, _<_, _≤_}
 use mathlib.Core.Path.{_≡_, refl, sym, ap, subst, _∙_}
-use mathlib.Core.List.{List, [], _∷_, _++_, map, append-nil, append-assoc}
-use mathlib.Core.Bool.{Bool, true, false, cond}
+use mathlib.Core.List.{List, [], _∷_, _++_, map, append-assoc}
 use native.Mathlib.Omega.{arith}
 use mir.Syntax.{w8, w64}
 use mir.Val.{Fits}
-use lib.Dec.{eqb}
-use lib.ListN.{length, getD, take, drop, length-append, length-drop}
-use lib.Seq.{drop-drop, take-at}
-use Rattle.order.specs.declared.Ordering.the-variants.{Less}
-use Rattle.order.specs.Comparison.{bytes}
-use Rattle.order.specs.Map.{Item, All, Below}
+use lib.ListN.{length, getD, drop, length-append, length-drop}
+use Rattle.order.specs.Map.{Item, All}
 use Rattle.change.specs.Change.{Change}
 use Rattle.change.specs.Difference as change
 use Rattle.number.specs.Number.{twoAt, wordAt}
 use Rattle.number.specs.Bytes.{AllBytes}
-use Rattle.body.specs.declared.tag.Form.{Form}
 use Rattle.body.specs.declared.tag.Form.the-variants.{Snapshot, Delta}
-use Rattle.body.specs.declared.tag.Tag.{Tag}
-use Rattle.body.specs.declared.tag.Tag.the-variants.{Unknown, Origin, RouterKey, Aspa}
-use Rattle.body.specs.Tag.{tagOf, kindNumber, kindOf}
+use Rattle.body.specs.Tag.{kindOf}
 use Rattle.body.proofs.Digits.{snapshot-kind, delta-kind}
-use Rattle.field.specs.Head.{whole, front}
-use Rattle.field.specs.Key.{keyOf}
-use Rattle.field.specs.Cells.{Cell, cells}
-use Rattle.field.specs.Run.{GoodAt}
-use Rattle.field.proofs.Fronts.{opens}
-use Rattle.field.proofs.Run.{cells-more, cells-end}
-use Rattle.field.proofs.Common.{front-same, Found, found, found-origin, good-behind}
+use Rattle.field.specs.Cells.{Cell}
+use Rattle.field.proofs.Run.{cells-end}
+use Rattle.field.proofs.Common.{Found, found-origin}
 use Rattle.payload.specs.Content.{Bytes, entryOf}
 use Rattle.payload.specs.Payload.{entries, items, changes}
 use Rattle.item.specs.declared.reading.Reading.the-variants.{Announced, Changes}
 use Rattle.item.specs.Front.{frontKey, frontIn, top}
 use Rattle.item.specs.Reading.{Ready}
-use Rattle.item.proofs.Fronts.{front-here, front-less, cons-bytes, take-bytes, drop-bytes}
 use Rattle.item.proofs.Heres.{here, cell, next, said, behind, within, front-is, octets}
 pub use Rattle.turn.specs.Seek.{Bounds, Seeks}
 

@@ -1,22 +1,21 @@
 -- Laws of the run that two snapshots have in common.
 use Prim.Native.Nat.{ℕ, _+_, _-_, _<_, _≤_, min}
 use mathlib.Core.Path.{_≡_, refl, sym, ap, ap₂, _∙_}
-use mathlib.Core.List.{List, _∷_, _++_}
-use mathlib.Core.Option.{Option}
+use mathlib.Core.List.{_++_}
 use mathlib.Core.Bool.{Bool, false, not}
 use native.Mathlib.Omega.{arith}
 use borrow.Author.Tests.{eqb-true, not-false}
 use lib.Dec.{eqb}
 use mir.Syntax.{w8}
 use mir.Val.{Fits}
-use lib.ListN.{length, getD, take, drop, length-take, length-drop}
+use lib.ListN.{length, getD, take, drop, length-drop}
 use lib.Seq.{take-add, take-take, drop-drop, drop-at, length-take-le}
 use Rattle.order.specs.declared.Ordering.{Ordering}
 use Rattle.order.specs.Comparison.{bytes}
 use Rattle.order.specs.Walk.{emit}
 use Rattle.order.proofs.Comparison.{strings}
 use Rattle.order.proofs.Walk.{walk-equal}
-use Rattle.change.specs.Change.{Change, update, unlessEqual}
+use Rattle.change.specs.Change.{update, unlessEqual}
 use Rattle.change.specs.Merge.{mergeAt, merge}
 use Rattle.number.specs.Number.{wordAt, twoAt}
 use Rattle.number.proofs.Values.{word-bytes}
@@ -28,7 +27,7 @@ use Rattle.field.proofs.Run.{cells-more}
 use Rattle.field.proofs.Common.{front-same, Found, found, found-origin, good-behind}
 use Rattle.payload.specs.Content.{Bytes, entryOf}
 use Rattle.item.specs.declared.reading.Reading.{Reading}
-use Rattle.item.specs.declared.reading.Reading.the-variants.{Withdrawn, Announced, Changes}
+use Rattle.item.specs.declared.reading.Reading.the-variants.{Withdrawn, Announced}
 use Rattle.item.specs.Reading.{itemAs, readAs, Ready}
 use Rattle.turn.specs.Left.{leftOf}
 use Rattle.turn.specs.Skip.{SameAt, Agrees, Common, Skips}

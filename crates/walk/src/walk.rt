@@ -14,7 +14,6 @@ use turn::turn::Side;
 use turn::turn::Turn;
 use turn::turn::take_turn;
 ghost use mathlib.Core.Path.{_≡_};
-ghost use mathlib.Core.List.{_∷_, []};
 ghost use lib.ListN.{length, drop};
 ghost use lib.Seq.{sets};
 ghost use Rattle.item.specs.Place.{itemIn};
