@@ -14,7 +14,7 @@ use borrow.Author.Tests.{leb-true, eqb-true}
 use Rattle.serial.specs.declared.Serial.{Serial}
 use Rattle.serial.specs.declared.Session.{Session}
 use Rattle.serial.specs.Serial.{distanceOf, sessionOf}
-use Rattle.field.specs.Number.{twoAt, fourAt}
+use Rattle.number.specs.Number.{twoAt, fourAt}
 use Rattle.payload.specs.Content.{Bytes}
 use Rattle.payload.specs.Written.{writtenOver}
 use Rattle.delta.specs.declared.refusal.Refusal.{Refusal}

@@ -7,8 +7,8 @@ use mir.Syntax.{w8}
 use mir.Val.{Fits}
 use lib.ListN.{length, getD, take, drop, set, length-set, length-take, length-drop}
 use lib.Seq.{sets, length-sets, take-add, take-take, take-set-le, drop-drop, drop-cons, length-take-le}
-use Rattle.field.specs.Number.{wordAt, wordBytes}
-use Rattle.field.proofs.Numbers.{bytes-of-word}
+use Rattle.number.specs.Number.{wordAt, wordBytes}
+use Rattle.number.proofs.Numbers.{bytes-of-word}
 use Rattle.payload.specs.Content.{Bytes}
 use Rattle.item.proofs.Sinking.{sets-append}
 use Rattle.item.proofs.Places.{drop-take}

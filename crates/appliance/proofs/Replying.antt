@@ -8,7 +8,7 @@ use lib.ListN.{length, replicate}
 use borrow.Author.Tests.{not-true, not-false, le-leb, lt-leb}
 use Rattle.serial.specs.declared.Serial.{Serial}
 use Rattle.serial.specs.declared.Session.{Session}
-use Rattle.field.specs.Number.{twoAt, fourAt}
+use Rattle.number.specs.Number.{twoAt, fourAt}
 use Rattle.payload.specs.Content.{Bytes}
 use Rattle.delta.specs.declared.refusal.Refusal.{Refusal}
 use Rattle.delta.specs.declared.refusal.Refusal.the-variants.{IllFormed, BadList}

@@ -5,9 +5,9 @@ use crate::turn::Known;
 use crate::turn::reply_to;
 use delta::admit::Admitted;
 use delta::refusal::Refusal;
-use field::number::two_at;
 use history::well_formed::well_formed;
 use history::well_formed::wide;
+use number::two_at;
 use past::state::History;
 use serial::Serial;
 use serial::Session;
@@ -17,7 +17,7 @@ ghost use mathlib.Core.Path.{_≡_};
 ghost use Prim.Native.Nat.{_+_, _≤_, _<_, min};
 ghost use lib.ListN.{length};
 ghost use Rattle.serial.specs.Serial.{distanceOf};
-ghost use Rattle.field.specs.Number.{twoAt, fourAt};
+ghost use Rattle.number.specs.Number.{twoAt, fourAt};
 ghost use Rattle.appliance.specs.QueryAll.{goodList, listAdmitted, noReply, refusedCall, queryAllOf, queryAllOut};
 
 // A reply of zeros.

@@ -1,6 +1,6 @@
 // Bytes of a lent slice once more, further up in it: eight at a time, the rest singly.
-use field::number::word_at;
 use item::copy::store_word;
+use number::word_at;
 ghost use mathlib.Core.Path.{_≡_};
 ghost use Prim.Native.Nat.{_≤_};
 ghost use lib.ListN.{take, drop};

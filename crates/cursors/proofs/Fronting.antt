@@ -14,13 +14,13 @@ use Rattle.order.specs.declared.Ordering.{Ordering}
 use Rattle.order.specs.declared.Ordering.the-variants.{Less, Equal, Greater}
 use Rattle.order.specs.Comparison.{flip, orElse, number, bytes}
 use Rattle.order.proofs.Comparison.{strings, less-number, equal-number, less≢equal, less≢greater}
+use Rattle.number.specs.Number.{wordAt}
+use Rattle.number.specs.Bytes.{part, AllBytes}
+use Rattle.body.specs.declared.tag.Form.the-variants.{Delta}
+use Rattle.body.specs.Tag.{kindOf}
+use Rattle.body.proofs.Digits.{delta-kind}
 use Rattle.field.specs.declared.key.Key.{Key}
-use Rattle.field.specs.declared.tag.Form.the-variants.{Delta}
-use Rattle.field.specs.Number.{wordAt}
-use Rattle.field.specs.Tag.{kindOf}
-use Rattle.field.specs.Places.{part, keyIn}
-use Rattle.field.proofs.Digits.{delta-kind}
-use Rattle.field.specs.Run.{AllBytes}
+use Rattle.field.specs.Places.{keyIn}
 use Rattle.payload.specs.Content.{Bytes, entryOf}
 use Rattle.item.specs.declared.place.Entry.{Entry}
 use Rattle.item.specs.declared.reading.Read.{Read}

@@ -13,8 +13,8 @@ use Rattle.order.specs.Map.{Item}
 use Rattle.order.specs.Many.{lower, lowerOf, least}
 use Rattle.order.proofs.Map.{none≢some}
 use Rattle.change.specs.Change.{Change}
+use Rattle.number.specs.Bytes.{AllBytes}
 use Rattle.field.specs.declared.key.Key.{Key}
-use Rattle.field.specs.Run.{AllBytes}
 use Rattle.payload.specs.Content.{Bytes}
 use Rattle.cursors.specs.declared.least.Found.{Found}
 use Rattle.cursors.specs.declared.least.Found.the-variants.{Nothing, At}

@@ -5,8 +5,9 @@ use mathlib.Core.List.{_∷_}
 use native.Mathlib.Omega.{arith}
 use lib.ListN.{length, take, drop, length-take}
 use lib.Seq.{take-take, length-take-le}
+use Rattle.number.specs.Bytes.{part}
 use Rattle.field.specs.declared.key.Key.{Key}
-use Rattle.field.specs.Places.{part, keyIn}
+use Rattle.field.specs.Places.{keyIn}
 use Rattle.payload.specs.Content.{Bytes}
 use Rattle.item.specs.declared.place.Part.{Part}
 use Rattle.item.specs.declared.place.Act.{Act}

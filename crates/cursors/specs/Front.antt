@@ -7,9 +7,9 @@ use lib.ListN.{length, getD, set, drop}
 use Rattle.order.specs.Comparison.{bytes}
 use Rattle.order.specs.Many.{first, past}
 use Rattle.change.specs.Merge.{mergeAt}
+use Rattle.number.specs.Bytes.{AllBytes}
 use Rattle.field.specs.declared.key.Key.{Key}
 use Rattle.field.specs.Places.{keyIn}
-use Rattle.field.specs.Run.{AllBytes}
 use Rattle.payload.specs.Content.{Bytes}
 use Rattle.item.specs.declared.place.Held.{Held}
 use Rattle.item.specs.Front.{frontKey, top}

@@ -2,13 +2,14 @@
 // differ, the keys are ordered as they are.
 use crate::cursor::item_at;
 use field::key::Key;
-use field::number::word_at;
 use item::front::front_in;
 use item::reading::Read;
+use number::word_at;
 ghost use mathlib.Core.Path.{_≡_};
 ghost use Prim.Native.Nat.{_≤_, _<_};
 ghost use lib.ListN.{length, getD};
-ghost use Rattle.field.specs.Places.{part, keyIn};
+ghost use Rattle.number.specs.Bytes.{part};
+ghost use Rattle.field.specs.Places.{keyIn};
 ghost use Rattle.item.specs.Place.{KeyIn};
 ghost use Rattle.cursors.specs.Cursor.{Stands};
 ghost use Rattle.item.specs.Front.{frontKey};

@@ -17,8 +17,8 @@ use Rattle.change.proofs.Whole.{asNew, diff-new, diff-as-merge, apply-as-merge}
 use Rattle.change.proofs.Items.{ItemFits, fit-items}
 use Rattle.serial.specs.declared.Serial.{Serial}
 use Rattle.serial.specs.Serial.{nextOf}
-use Rattle.field.specs.declared.tag.Form.{Form}
-use Rattle.field.specs.declared.tag.Form.the-variants.{Snapshot, Delta}
+use Rattle.body.specs.declared.tag.Form.{Form}
+use Rattle.body.specs.declared.tag.Form.the-variants.{Snapshot, Delta}
 use Rattle.field.specs.declared.verdict.Verdict.{Verdict}
 use Rattle.field.specs.declared.verdict.Verdict.the-variants as verdict
 use Rattle.field.specs.Verdict.{verdict}
@@ -35,8 +35,8 @@ use Rattle.delta.specs.declared.refusal.Refusal.{Refusal}
 use Rattle.delta.specs.declared.refusal.Refusal.the-variants as refusal
 use Rattle.delta.specs.declared.admit.Admitted.{Admitted}
 use Rattle.delta.specs.declared.admit.Admitted.the-variants.{Yes, No}
-use Rattle.walk.specs.declared.fit.Fit.{Fit}
-use Rattle.walk.specs.declared.fit.Fit.the-variants as fit
+use Rattle.fit.specs.declared.Fit.{Fit}
+use Rattle.fit.specs.declared.Fit.the-variants as fit
 use Rattle.item.specs.declared.sink.Counts.{Counts}
 use Rattle.item.specs.declared.reading.Reading.{Reading}
 use Rattle.item.specs.declared.reading.Reading.the-variants.{Withdrawn, Announced, Changes}
@@ -50,7 +50,7 @@ use Rattle.delta.specs.Inputs.{Inputs}
 use Rattle.item.specs.Reading.{formOf, Ready}
 use Rattle.item.specs.Write.{cellAs, writes, plusAll, zero}
 use Rattle.walk.specs.Walk.{Runs, mergedAs, outputOf, wholeOut}
-use Rattle.walk.specs.Fit.{misfit, fitOf}
+use Rattle.fit.specs.Fit.{misfit, fitOf}
 use Rattle.delta.specs.Answer.{differenceOf, mergedOf, appliedOf, countsOf, outAfter, constructOf, constructOut, mergeOf, mergeOut, applyOf, applyOut}
 use Rattle.item.proofs.Putting.{counts-path}
 

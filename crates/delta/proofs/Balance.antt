@@ -14,10 +14,10 @@ use Rattle.change.specs.Change.{Change, announce, withdraw, update}
 use Rattle.change.specs.Difference as change
 use Rattle.change.specs.Balance.{brings, takes, ofKind, brought, taken}
 use Rattle.change.proofs.Balance as maps
-use Rattle.field.specs.declared.tag.Form.{Form}
-use Rattle.field.specs.declared.tag.Form.the-variants.{Snapshot, Delta}
+use Rattle.body.specs.declared.tag.Form.{Form}
+use Rattle.body.specs.declared.tag.Form.the-variants.{Snapshot, Delta}
+use Rattle.body.specs.Tag.{tagOf, kindOf}
 use Rattle.field.specs.declared.verdict.Verdict.the-variants.{Fine}
-use Rattle.field.specs.Tag.{tagOf, kindOf}
 use Rattle.field.specs.Key.{keyOf}
 use Rattle.field.specs.Verdict.{verdict}
 use Rattle.field.specs.Cells.{Cell, cells}

@@ -11,12 +11,12 @@ use Rattle.order.proofs.Comparison.{strings}
 use Rattle.change.proofs.Whole.{compose}
 use Rattle.serial.specs.declared.Serial.{Serial}
 use Rattle.serial.specs.Serial.{nextOf}
-use Rattle.field.specs.declared.tag.Form.{Form}
-use Rattle.field.specs.declared.tag.Form.the-variants.{Snapshot, Delta}
+use Rattle.number.specs.Bytes.{AllBytes}
+use Rattle.body.specs.declared.tag.Form.{Form}
+use Rattle.body.specs.declared.tag.Form.the-variants.{Snapshot, Delta}
 use Rattle.field.specs.declared.verdict.Verdict.{Verdict}
 use Rattle.field.specs.declared.verdict.Verdict.the-variants.{Fine, Bad, Senseless, NotAbove}
 use Rattle.field.specs.Verdict.{verdict}
-use Rattle.field.specs.Run.{AllBytes}
 use Rattle.payload.specs.Content.{Bytes}
 use Rattle.payload.specs.Written.{writtenOver}
 use Rattle.payload.specs.Limit.{limit}

@@ -11,7 +11,7 @@ use Rattle.change.specs.Difference.{diff}
 use Rattle.change.specs.Application.{Applies}
 use Rattle.change.proofs.Whole.{yields, applies, diff-nil, nil-diff}
 use Rattle.change.proofs.Items.{ItemFits, items-fit}
-use Rattle.field.specs.declared.tag.Form.the-variants.{Snapshot, Delta}
+use Rattle.body.specs.declared.tag.Form.the-variants.{Snapshot, Delta}
 use Rattle.field.specs.declared.verdict.Verdict.the-variants.{Fine}
 use Rattle.field.specs.Verdict.{verdict}
 use Rattle.field.specs.Cells.{Cell, cells}
@@ -20,8 +20,8 @@ use Rattle.payload.specs.Content.{Bytes, entryOf}
 use Rattle.payload.specs.Valid.{IsMap}
 use Rattle.payload.specs.Payload.{entries, encode, items, changes}
 use Rattle.payload.proofs.Faithful.{faithful, one-form, entries-end}
-use Rattle.walk.specs.declared.fit.Fit.the-variants.{All}
-use Rattle.walk.specs.Fit.{misfit, fitOf}
+use Rattle.fit.specs.declared.Fit.the-variants.{All}
+use Rattle.fit.specs.Fit.{misfit, fitOf}
 use Rattle.delta.specs.Answer.{differenceOf, appliedOf}
 use Rattle.delta.specs.Demand.{GoodSnapshot}
 use Rattle.payload.proofs.Closed.{diff-map}

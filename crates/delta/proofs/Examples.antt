@@ -5,11 +5,11 @@ use mathlib.Core.List.{[], _∷_, _++_}
 use lib.ListN.{length, replicate}
 use Rattle.order.specs.Walk.{walk}
 use Rattle.change.specs.Grouping.{Grouping, alone, grouped, leaves, mergeTree}
-use Rattle.field.specs.declared.tag.Form.the-variants.{Snapshot, Delta}
+use Rattle.body.specs.declared.tag.Form.the-variants.{Snapshot, Delta}
+use Rattle.body.specs.Origin.{clean, goodPrefix, goodOrigin}
+use Rattle.body.specs.Aspa.{asns, ascending, ascendingFrom, goodProviders, goodAspa, goodUpdate, isIn, sensibleAsns, sensibleProviders, sensibleAspa, sensibleUpdate}
+use Rattle.body.specs.Tag.{tagOf, kindOf, goodBody, sensible}
 use Rattle.field.specs.declared.verdict.Verdict.the-variants.{Fine}
-use Rattle.field.specs.Origin.{clean, goodPrefix, goodOrigin}
-use Rattle.field.specs.Aspa.{asns, ascending, ascendingFrom, goodProviders, goodAspa, goodUpdate, isIn, sensibleAsns, sensibleProviders, sensibleAspa, sensibleUpdate}
-use Rattle.field.specs.Tag.{tagOf, kindOf, goodBody, sensible}
 use Rattle.field.specs.Key.{keyOf}
 use Rattle.field.specs.Head.{front}
 use Rattle.field.specs.Verdict.{judge, verdictF, verdict}
@@ -18,8 +18,8 @@ use Rattle.field.specs.Cells as run
 use Rattle.payload.specs.Content.{Bytes}
 use Rattle.payload.specs.Count.{announcedIn}
 use Rattle.payload.specs.Payload.{entries, encode}
-use Rattle.walk.specs.declared.fit.Fit.the-variants.{Misfit}
-use Rattle.walk.specs.Fit.{misfit, fitOf}
+use Rattle.fit.specs.declared.Fit.the-variants.{Misfit}
+use Rattle.fit.specs.Fit.{misfit, fitOf}
 use Rattle.delta.specs.declared.refusal.Refusal.the-variants.{Bad, Senseless}
 use Rattle.delta.specs.declared.admit.Admitted.the-variants.{Yes, No}
 use Rattle.delta.specs.Admission.{admitOneOf, admitOf}

@@ -15,21 +15,21 @@ use Rattle.change.proofs.Short as short
 use Rattle.change.proofs.Whole.{compose}
 use Rattle.change.proofs.Grouping.{tree-ends}
 use Rattle.serial.specs.declared.Serial.{Serial}
-use Rattle.field.specs.declared.tag.Form.{Form}
-use Rattle.field.specs.declared.tag.Form.the-variants.{Snapshot, Delta}
+use Rattle.number.specs.Bytes.{AllBytes}
+use Rattle.body.specs.declared.tag.Form.{Form}
+use Rattle.body.specs.declared.tag.Form.the-variants.{Snapshot, Delta}
 use Rattle.field.specs.declared.verdict.Verdict.the-variants.{Fine}
 use Rattle.field.specs.Verdict.{verdict}
 use Rattle.field.specs.Cells.{Cell, cells}
 use Rattle.field.specs.Cells as run
-use Rattle.field.specs.Run.{AllBytes}
 use Rattle.field.proofs.Encode.{cells-encode}
 use Rattle.payload.specs.Content.{Bytes, cellFor}
 use Rattle.payload.specs.Payload.{entries, encode, items, changes}
 use Rattle.payload.specs.Limit.{limit}
 use Rattle.payload.proofs.Faithful.{faithful}
-use Rattle.walk.specs.declared.fit.Fit.{Fit}
-use Rattle.walk.specs.declared.fit.Fit.the-variants.{All, Misfit}
-use Rattle.walk.specs.Fit.{fitOf}
+use Rattle.fit.specs.declared.Fit.{Fit}
+use Rattle.fit.specs.declared.Fit.the-variants.{All, Misfit}
+use Rattle.fit.specs.Fit.{fitOf}
 use Rattle.delta.specs.declared.admit.Admitted.{Admitted}
 use Rattle.delta.specs.declared.admit.Admitted.the-variants.{Yes, No}
 use Rattle.delta.specs.declared.apply.Applied.the-variants as applied

@@ -3,7 +3,7 @@ use Prim.Native.Nat.{ℕ}
 use mathlib.Core.Bool.{cond}
 use lib.Dec.{leb}
 use lib.ListN.{length}
-use Rattle.field.specs.declared.tag.Form.{Form}
+use Rattle.body.specs.declared.tag.Form.{Form}
 use Rattle.field.specs.declared.verdict.Verdict.{Verdict}
 use Rattle.field.specs.declared.verdict.Verdict.the-variants as verdict
 use Rattle.field.specs.Verdict.{verdict}

@@ -9,7 +9,7 @@ use Rattle.change.specs.Merge.{merge}
 use Rattle.change.specs.Application.{apply}
 use Rattle.serial.specs.declared.Serial.{Serial}
 use Rattle.serial.specs.Serial.{nextOf}
-use Rattle.field.specs.declared.tag.Form.the-variants.{Snapshot, Delta}
+use Rattle.body.specs.declared.tag.Form.the-variants.{Snapshot, Delta}
 use Rattle.payload.specs.Content.{Bytes}
 use Rattle.payload.specs.Payload.{encode, items, changes}
 use Rattle.payload.specs.Count.{announcedIn, withdrawnIn}
@@ -17,8 +17,8 @@ use Rattle.payload.specs.Written.{writtenIfRoom}
 use Rattle.delta.specs.declared.refusal.Refusal.the-variants.{NoRoom, CannotApply}
 use Rattle.delta.specs.declared.admit.Admitted.{Admitted}
 use Rattle.delta.specs.declared.admit.Admitted.the-variants.{Yes, No}
-use Rattle.walk.specs.declared.fit.Fit.{Fit}
-use Rattle.walk.specs.declared.fit.Fit.the-variants.{All, Misfit}
+use Rattle.fit.specs.declared.Fit.{Fit}
+use Rattle.fit.specs.declared.Fit.the-variants.{All, Misfit}
 use Rattle.item.specs.declared.sink.Counts.{Counts}
 use Rattle.delta.specs.declared.construct.Constructed.{Constructed}
 use Rattle.delta.specs.declared.construct.Constructed.the-variants as constructed
@@ -27,7 +27,7 @@ use Rattle.delta.specs.declared.merge.Merged.the-variants as merged
 use Rattle.delta.specs.declared.apply.Applied.{Applied}
 use Rattle.delta.specs.declared.apply.Applied.the-variants as applied
 use Rattle.delta.specs.Admission.{andThen, admitOf}
-use Rattle.walk.specs.Fit.{fitOf}
+use Rattle.fit.specs.Fit.{fitOf}
 
 -- the bytes of the difference, of the merge, of the snapshot with the delta applied
 unfoldable pub differenceOf : Bytes → Bytes → Bytes

@@ -10,16 +10,16 @@ use Rattle.change.specs.History.{newest}
 use Rattle.change.specs.Short.{Part}
 use Rattle.change.specs.Grouping.{Grouping, leaves, mergeTree, steps}
 use Rattle.serial.specs.declared.Serial.{Serial}
-use Rattle.field.specs.declared.tag.Form.the-variants.{Delta}
+use Rattle.number.specs.Bytes.{AllBytes}
+use Rattle.body.specs.declared.tag.Form.the-variants.{Delta}
 use Rattle.field.specs.declared.verdict.Verdict.the-variants.{Fine}
 use Rattle.field.specs.Verdict.{verdict}
 use Rattle.field.specs.Cells.{cells}
-use Rattle.field.specs.Run.{AllBytes}
 use Rattle.payload.specs.Content.{Bytes}
 use Rattle.payload.specs.Count.{countTags, announcedIn, withdrawnIn}
 use Rattle.payload.specs.Limit.{limit}
-use Rattle.walk.specs.declared.fit.Fit.the-variants.{All}
-use Rattle.walk.specs.Fit.{fitOf}
+use Rattle.fit.specs.declared.Fit.the-variants.{All}
+use Rattle.fit.specs.Fit.{fitOf}
 use Rattle.delta.specs.declared.merge.Merged.{Merged}
 use Rattle.delta.specs.declared.merge.Merged.the-variants as merged
 use Rattle.delta.specs.declared.apply.Applied.the-variants as applied

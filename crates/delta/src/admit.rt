@@ -1,8 +1,8 @@
 // Whether the inputs of an entry may be read: refusal 10, then 1, 12 and 2.
 use crate::refusal::Refusal;
-use field::tag::Form;
+use body::tag::Form;
 use field::verdict::Verdict;
-use field::verdict::check;
+use verdict::check::check;
 ghost use mathlib.Core.Path.{_≡_};
 ghost use mathlib.Core.Bool.{not};
 ghost use lib.Dec.{leb};

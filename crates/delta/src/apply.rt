@@ -2,10 +2,10 @@
 use crate::admit::Admitted;
 use crate::admit::admit;
 use crate::refusal::Refusal;
-use field::tag::Form;
+use body::tag::Form;
+use fit::Fit;
+use fit::first_misfit;
 use item::reading::Reading;
-use walk::fit::Fit;
-use walk::fit::first_misfit;
 use walk::walk::Output;
 use walk::walk::put_whole;
 ghost use mathlib.Core.Path.{_≡_};

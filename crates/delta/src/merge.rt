@@ -2,7 +2,7 @@
 use crate::admit::Admitted;
 use crate::admit::admit;
 use crate::refusal::Refusal;
-use field::tag::Form;
+use body::tag::Form;
 use item::reading::Reading;
 use item::sink::Counts;
 use serial::Serial;

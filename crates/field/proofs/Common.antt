@@ -1,23 +1,22 @@
 -- A field of a good run as a walk over bytes meets it, and the same field at another place.
 use Prim.Native.Nat.{ℕ, _+_, _<_, _≤_}
 use mathlib.Core.Path.{_≡_, refl, sym, ap, _∙_}
-use mathlib.Core.List.{List, [], _∷_, _++_}
+use mathlib.Core.List.{List, _∷_, _++_}
 use mathlib.Core.Bool.{true}
 use native.Mathlib.Omega.{arith}
 use borrow.Author.Tests.{le-leb}
 use lib.ListN.{length, getD, take, drop, length-append, length-drop, take-append-drop}
 use lib.Seq.{take-at, take-append-seam, drop-append-seam, getD-drop}
 use Rattle.order.specs.Comparison.{bytes}
-use Rattle.field.specs.declared.tag.Form.{Form}
-use Rattle.field.specs.declared.tag.Form.the-variants.{Snapshot}
-use Rattle.field.specs.Number.{two, twoAt}
-use Rattle.field.specs.Origin.{goodOrigin}
-use Rattle.field.specs.Tag.{tagOf, goodBody}
+use Rattle.number.specs.Number.{two, twoAt}
+use Rattle.body.specs.declared.tag.Form.{Form}
+use Rattle.body.specs.declared.tag.Form.the-variants.{Snapshot}
+use Rattle.body.specs.Tag.{tagOf, goodBody}
+use Rattle.body.proofs.Sizes.{origin-size}
 use Rattle.field.specs.Head.{Front, end, cut, whole, front}
 use Rattle.field.specs.Run.{GoodAt}
 use Rattle.field.proofs.Fronts.{opens, front-end}
 use Rattle.field.proofs.Run.{run-cut, run-whole}
-use Rattle.field.proofs.Sizes.{origin-size}
 
 -- a field by its bytes
 front-bytes : (tag h l : ℕ) (b s : List ℕ) → two h l ≡ length b → front (tag ∷ h ∷ l ∷ b ++ s) ≡ whole tag b s

@@ -12,14 +12,15 @@ use lib.ListN.{length, getD, length-append}
 use lib.Seq.{take-append-seam, drop-append-seam, getD-append-add}
 use Rattle.order.specs.declared.Ordering.the-variants.{Less}
 use Rattle.order.specs.Comparison.{bytes}
-use Rattle.field.specs.declared.tag.Form.{Form}
+use Rattle.number.specs.Bytes.{AllBytes}
+use Rattle.body.specs.declared.tag.Form.{Form}
+use Rattle.body.specs.Tag.{goodBody, sensible}
 use Rattle.field.specs.declared.verdict.Verdict.the-variants.{Fine}
-use Rattle.field.specs.Tag.{goodBody, sensible}
 use Rattle.field.specs.Head.{whole, front}
 use Rattle.field.specs.Verdict.{verdict}
 use Rattle.field.specs.Cells.{Cell, cellKey, cells, field, cellBytes}
 use Rattle.field.proofs.Fronts.{opens}
-use Rattle.field.specs.Run.{AllBytes, Run, done, more}
+use Rattle.field.specs.Run.{Run, done, more}
 use Rattle.field.proofs.Run.{cells-end, cells-more, fine-run, run-verdict}
 
 -- a field is read as it was written

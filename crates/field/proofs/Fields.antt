@@ -9,11 +9,14 @@ use borrow.Author.Tests.{le-leb, lt-leb}
 use lib.Dec.{leb}
 use lib.ListN.{length, getD, take, drop, length-drop, drop-of-length-le}
 use lib.Seq.{drop-cons, drop-drop, length-take-le, take-append-seam, drop-append-seam}
+use Rattle.number.specs.Number.{twoAt, wordAt}
+use Rattle.number.specs.Bytes.{part}
 use Rattle.field.specs.declared.head.Field.{Field}
 use Rattle.field.specs.declared.head.Field.the-variants.{End, Cut, Whole}
-use Rattle.field.specs.Number.{twoAt}
+use Rattle.field.specs.declared.words.Words.{Words}
 use Rattle.field.specs.Head.{Front, end, cut, whole, front}
-use Rattle.field.specs.Places.{part, place, fieldAt}
+use Rattle.field.specs.Places.{place, fieldAt}
+use Rattle.field.specs.Words.{wordsAt}
 use Rattle.field.proofs.Fronts.{opens, shorter}
 
 -- ---- how field_at finds it
@@ -125,3 +128,9 @@ module _ (s : List ℕ) (at : ℕ) (r : Field) (f : r ≡ fieldAt s at) where
     -- and so less is left behind it
     pub field-less : length s - to < length s - at
     field-less = let w = whole-at in omega arith
+
+-- ---- the words of a field
+
+pub words-read : (s : List ℕ) (at x y z t : ℕ) → x ≡ wordAt s at → y ≡ wordAt s (at + 8) → z ≡ wordAt s (at + 16) → t ≡ twoAt s (at + 24)
+    → _≡_ {A = Words} (record { first = x; second = y; third = z; last = t }) (wordsAt s at)
+words-read s at x y z t p q r l = λ i. record { first = p i; second = q i; third = r i; last = l i }

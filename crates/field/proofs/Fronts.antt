@@ -8,7 +8,7 @@ use borrow.Author.Tests.{leb-true}
 use lib.Dec.{leb}
 use lib.ListN.{length, take, drop, length-append, take-append-drop}
 use lib.Seq.{length-take-le}
-use Rattle.field.specs.Number.{two}
+use Rattle.number.specs.Number.{two}
 use Rattle.field.specs.Head.{Front, end, cut, whole, front}
 
 -- two fronts that differ: from them anything follows (where the goal is an equation `cc` finds it alone)

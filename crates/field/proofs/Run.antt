@@ -7,14 +7,14 @@ use native.Mathlib.Omega.{arith}
 use lib.ListN.{length}
 use Rattle.order.specs.declared.Ordering.{Ordering}
 use Rattle.order.specs.declared.Ordering.the-variants.{Less, Equal, Greater}
-use Rattle.order.specs.Comparison.{bytes}
-use Rattle.field.specs.declared.tag.Form.{Form}
+use Rattle.order.specs.Comparison.{bytes, isLess}
+use Rattle.body.specs.declared.tag.Form.{Form}
+use Rattle.body.specs.Tag.{goodBody, sensible, kindOf}
 use Rattle.field.specs.declared.verdict.Verdict.{Verdict}
 use Rattle.field.specs.declared.verdict.Verdict.the-variants.{Fine, Bad, Senseless, NotAbove}
-use Rattle.field.specs.Tag.{goodBody, sensible, kindOf}
 use Rattle.field.specs.Head.{Front, end, cut, whole, front}
 use Rattle.field.specs.Key.{keyOf}
-use Rattle.field.specs.Verdict.{isLess, judge, verdictF, verdict}
+use Rattle.field.specs.Verdict.{judge, verdictF, verdict}
 use Rattle.field.specs.Run.{Run, done, more}
 use Rattle.field.specs.Cells.{Cell, cellsF, cells}
 use Rattle.field.proofs.Fronts.{front-end, shorter, end≢whole, cut≢whole}

@@ -6,15 +6,16 @@ use mathlib.Core.Bool.{true}
 use lib.ListN.{drop}
 use Rattle.order.specs.declared.Ordering.the-variants.{Less}
 use Rattle.order.specs.Comparison.{bytes}
+use Rattle.number.specs.Bytes.{part}
+use Rattle.body.specs.declared.tag.Form.{Form}
+use Rattle.body.specs.Tag.{goodBody, sensible, kindOf}
 use Rattle.field.specs.declared.head.Field.{Field}
 use Rattle.field.specs.declared.head.Field.the-variants.{End, Cut, Whole}
-use Rattle.field.specs.declared.tag.Form.{Form}
 use Rattle.field.specs.declared.verdict.Verdict.the-variants.{Fine}
-use Rattle.field.specs.Tag.{goodBody, sensible, kindOf}
 use Rattle.field.specs.Key.{keyOf}
 use Rattle.field.specs.Verdict.{verdict}
 use Rattle.field.specs.Cells.{cells}
-use Rattle.field.specs.Places.{part, fieldAt}
+use Rattle.field.specs.Places.{fieldAt}
 use Rattle.field.proofs.Fields.{end-at, cut-at, whole-at, body-ordered, body-within, field-long, field-less}
 use Rattle.field.proofs.Keys.{key-fits}
 use Rattle.field.specs.Run.{Run, GoodAt}

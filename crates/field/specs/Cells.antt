@@ -2,8 +2,8 @@
 use Prim.Native.Nat.{ℕ, zero, suc, _/_, _%_}
 use mathlib.Core.List.{List, [], _∷_, _++_}
 use lib.ListN.{length}
-use Rattle.field.specs.declared.tag.Form.{Form}
-use Rattle.field.specs.Tag.{kindOf}
+use Rattle.body.specs.declared.tag.Form.{Form}
+use Rattle.body.specs.Tag.{kindOf}
 use Rattle.field.specs.Head.{Front, end, cut, whole, front}
 use Rattle.field.specs.Key.{keyOf}
 

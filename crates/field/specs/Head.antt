@@ -4,7 +4,7 @@ use mathlib.Core.List.{List, [], _∷_}
 use mathlib.Core.Bool.{cond}
 use lib.ListN.{length, take, drop}
 use lib.Dec.{leb}
-use Rattle.field.specs.Number.{two}
+use Rattle.number.specs.Number.{two}
 
 -- nothing; a field that is cut short; a field, and the bytes behind it
 pub data Front : Type 0 where

@@ -1,17 +1,14 @@
 -- What the places that the code keeps stand for in the bytes s.
-use Prim.Native.Nat.{ℕ, _+_, _-_, _≤_, min}
+use Prim.Native.Nat.{ℕ, _+_, _≤_, min}
 use mathlib.Core.List.{List, _∷_}
 use mathlib.Core.Bool.{cond}
 use lib.Dec.{eqb}
-use lib.ListN.{length, take, drop}
+use lib.ListN.{length, drop}
+use Rattle.number.specs.Bytes.{part}
 use Rattle.field.specs.declared.head.Field.{Field}
 use Rattle.field.specs.declared.head.Field.the-variants.{End, Cut, Whole}
 use Rattle.field.specs.declared.key.Key.{Key}
 use Rattle.field.specs.Head.{Front, end, cut, whole, front}
-
--- the bytes from `from` up to `to`
-abbrev pub part : List ℕ → ℕ → ℕ → List ℕ
-part s from to = take (to - from) (drop from s)
 
 -- where the field that stands at `at` has its body: behind its three-byte head
 abbrev pub place : ℕ → Front → Field

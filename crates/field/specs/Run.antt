@@ -1,19 +1,15 @@
 -- Good runs of fields.
-use Prim.Native.Nat.{ℕ, _<_}
+use Prim.Native.Nat.{ℕ}
 use mathlib.Core.Path.{_≡_}
 use mathlib.Core.List.{List, []}
 use mathlib.Core.Bool.{true}
-use lib.ListN.{getD, drop}
+use lib.ListN.{drop}
 use Rattle.order.specs.declared.Ordering.the-variants.{Less}
 use Rattle.order.specs.Comparison.{bytes}
-use Rattle.field.specs.declared.tag.Form.{Form}
-use Rattle.field.specs.Tag.{goodBody, sensible, kindOf}
+use Rattle.body.specs.declared.tag.Form.{Form}
+use Rattle.body.specs.Tag.{goodBody, sensible, kindOf}
 use Rattle.field.specs.Head.{whole, front}
 use Rattle.field.specs.Key.{keyOf}
-
--- each element is a byte
-abbrev pub AllBytes : List ℕ → Type 0
-AllBytes s = (i : ℕ) → getD s i 0 < 256
 
 -- a good run behind the key k: its end, or a good field that makes sense, above k, and a good run behind it
 pub data Run (form : Form) : List ℕ → List ℕ → Type 0 where

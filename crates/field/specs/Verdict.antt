@@ -1,23 +1,15 @@
 -- What the check of a whole snapshot or delta finds.
 use Prim.Native.Nat.{ℕ, zero, suc, _+_}
 use mathlib.Core.List.{List, [], _∷_}
-use mathlib.Core.Bool.{Bool, true, false, cond}
+use mathlib.Core.Bool.{cond}
 use lib.ListN.{length}
-use Rattle.order.specs.Comparison.{bytes}
-use Rattle.order.specs.declared.Ordering.{Ordering}
-use Rattle.order.specs.declared.Ordering.the-variants.{Less, Equal, Greater}
-use Rattle.field.specs.declared.tag.Form.{Form}
+use Rattle.order.specs.Comparison.{isLess, bytes}
+use Rattle.body.specs.declared.tag.Form.{Form}
+use Rattle.body.specs.Tag.{goodBody, sensible, kindOf}
 use Rattle.field.specs.declared.verdict.Verdict.{Verdict}
 use Rattle.field.specs.declared.verdict.Verdict.the-variants.{Fine, Bad, Senseless, NotAbove}
-use Rattle.field.specs.Tag.{goodBody, sensible, kindOf}
 use Rattle.field.specs.Head.{Front, end, cut, whole, front}
 use Rattle.field.specs.Key.{keyOf}
-
--- the first stands below the second
-abbrev pub isLess : Ordering → Bool
-isLess Less = true
-isLess Equal = false
-isLess Greater = false
 
 -- the field at `at`, behind one with the key `before`: refusal 1, then 12, then 2; else `go` judges what is behind it,
 -- from its offset, its key and the rest of the bytes

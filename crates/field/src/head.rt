@@ -1,5 +1,5 @@
 // The head of a field: a one-byte tag, a two-byte length.
-use crate::number::two_at;
+use number::two_at;
 ghost use mathlib.Core.Path.{_≡_};
 ghost use Rattle.field.specs.Places.{fieldAt};
 

@@ -1,6 +1,6 @@
 // Keys: what fields are matched and ordered by.
-use crate::compare::compare;
-use crate::number::lower;
+use number::compare::compare;
+use number::lower;
 use order::Ordering;
 ghost use mathlib.Core.Path.{_≡_};
 ghost use Rattle.order.specs.Comparison.{bytes};

@@ -1,11 +1,5 @@
-// Fields of snapshots and deltas: heads, bodies, keys, and the check of a whole run of fields.
-pub mod aspa;
-pub mod compare;
+// Fields of snapshots and deltas: heads, keys, words, and what the check of a whole run of fields finds.
 pub mod head;
 pub mod key;
-pub mod number;
-pub mod origin;
-pub mod router_key;
-pub mod tag;
 pub mod verdict;
 pub mod words;

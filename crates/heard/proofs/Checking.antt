@@ -9,16 +9,16 @@ use borrow.Author.Tests.{eq-eqb, ne-eqb, le-leb, lt-leb, not-true, not-false}
 use lib.Dec.{leb, eqb}
 use lib.ListN.{length, getD, take, drop, length-drop, drop-of-length-le}
 use lib.Seq.{sets, sets-eq, length-take-le}
+use Rattle.number.specs.Number.{twoBytes, fourBytes, wordBytes}
+use Rattle.number.specs.Bytes.{part}
+use Rattle.number.proofs.Eights.{Octets}
+use Rattle.body.specs.declared.tag.Form.the-variants.{Snapshot}
+use Rattle.body.specs.Origin.{goodOrigin}
+use Rattle.body.specs.RouterKey.{goodRouterKey}
+use Rattle.body.specs.Tag.{tagOf, goodBody}
 use Rattle.field.specs.declared.words.Words.{Words}
-use Rattle.field.specs.declared.tag.Form.the-variants.{Snapshot}
-use Rattle.field.specs.Number.{twoBytes, fourBytes, wordBytes}
-use Rattle.field.specs.Origin.{goodOrigin}
-use Rattle.field.specs.RouterKey.{goodRouterKey}
-use Rattle.field.specs.Tag.{tagOf, goodBody}
 use Rattle.field.specs.Cells.{field}
-use Rattle.field.specs.Places.{part}
 use Rattle.field.specs.Words.{wordsAt}
-use Rattle.field.proofs.Eights.{Octets}
 use Rattle.payload.specs.Content.{Bytes}
 use Rattle.message.specs.declared.version.Version.{Version}
 use Rattle.message.specs.Version.{speaks}

@@ -14,9 +14,9 @@ use Rattle.order.specs.declared.Ordering.the-variants.{Less, Equal, Greater}
 use Rattle.order.specs.Comparison.{orElse, number, bytes}
 use Rattle.order.proofs.Comparison.{number-less, number-equal, number-greater}
 use Rattle.change.specs.Application.{isEqual}
-use Rattle.field.specs.Number.{four, fourAt, wordAt}
-use Rattle.field.specs.Places.{part}
-use Rattle.field.proofs.Eights.{Octets, digits, word-digits, part-bytes, digits-decide}
+use Rattle.number.specs.Number.{four, fourAt, wordAt}
+use Rattle.number.specs.Bytes.{part}
+use Rattle.number.proofs.Eights.{Octets, digits, word-digits, part-bytes, digits-decide}
 use Rattle.payload.specs.Content.{Bytes}
 use Rattle.item.specs.Front.{packs, frontKey}
 use Rattle.item.proofs.Fronts.{front-less, front-greater}

@@ -3,9 +3,9 @@ use mathlib.Core.Path.{_≡_, refl}
 use mathlib.Core.List.{[], _∷_}
 use mathlib.Core.Bool.{true, false}
 use lib.ListN.{drop}
+use Rattle.body.specs.Origin.{clean, goodPrefix, goodOrigin}
+use Rattle.body.specs.Tag.{tagOf, goodBody}
 use Rattle.field.specs.Cells.{field}
-use Rattle.field.specs.Origin.{clean, goodPrefix, goodOrigin}
-use Rattle.field.specs.Tag.{tagOf, goodBody}
 use Rattle.payload.specs.Content.{Bytes}
 use Rattle.message.specs.declared.version.Version.the-variants.{Rfc8210}
 use Rattle.heard.specs.Place.{keyAt, precedes}

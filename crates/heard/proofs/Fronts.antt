@@ -8,12 +8,12 @@ use mir.Syntax.{w8, w64}
 use mir.Val.{Fits}
 use lib.ListN.{length, getD, take, drop, length-take, length-drop}
 use lib.Seq.{length-take-le}
-use Rattle.field.specs.declared.tag.Form.the-variants.{Snapshot}
-use Rattle.field.specs.Number.{four, fourAt, wordAt}
-use Rattle.field.specs.Places.{part}
-use Rattle.field.specs.Tag.{kindOf, tagOf, goodBody}
+use Rattle.number.specs.Number.{four, fourAt, wordAt}
+use Rattle.number.specs.Bytes.{part}
+use Rattle.number.proofs.Eights.{Octets}
+use Rattle.body.specs.declared.tag.Form.the-variants.{Snapshot}
+use Rattle.body.specs.Tag.{kindOf, tagOf, goodBody}
 use Rattle.field.specs.Key.{keyOf}
-use Rattle.field.proofs.Eights.{Octets}
 use Rattle.payload.specs.Content.{Bytes}
 use Rattle.item.specs.Front.{packs, frontKey, frontIn}
 use Rattle.item.proofs.Fronts.{front-here}

@@ -8,14 +8,14 @@ use native.Mathlib.Omega.{arith}
 use borrow.Author.Tests.{eq-eqb, ne-eqb, eqb-true, le-leb, lt-leb, leb-true, not-true, not-false}
 use lib.Dec.{leb, eqb}
 use lib.ListN.{length, getD, take, drop, replicate, length-drop, drop-of-length-le}
-use Rattle.field.specs.Places.{part}
+use Rattle.number.specs.Bytes.{part}
 use lib.Seq.{getD-drop, drop-drop, drop-cons}
 use Rattle.serial.specs.declared.Session.{Session}
 use Rattle.serial.specs.declared.Serial.{Serial}
 use Rattle.serial.specs.declared.timing.Timing.{Timing}
-use Rattle.field.specs.Number.{two, twoAt, four, fourAt, wordAt}
-use Rattle.field.proofs.Eights.{Octets}
-use Rattle.field.proofs.Sizes.{both}
+use Rattle.number.specs.Number.{two, twoAt, four, fourAt, wordAt}
+use Rattle.number.proofs.Eights.{Octets}
+use Rattle.body.proofs.Sizes.{both}
 use Rattle.payload.specs.Content.{Bytes}
 use Rattle.message.specs.declared.version.Version.{Version}
 use Rattle.message.specs.declared.version.Version.the-variants.{Rfc6810, Rfc8210}

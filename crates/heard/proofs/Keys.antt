@@ -10,9 +10,9 @@ use mir.Val.{Fits}
 use lib.Dec.{eqb}
 use lib.ListN.{length, getD, take, drop, replicate}
 use lib.Seq.{drop-cons}
-use Rattle.field.specs.Number.{two, twoAt, four, fourAt, wordAt}
-use Rattle.field.specs.Places.{part}
-use Rattle.field.proofs.Eights.{Octets, part-bytes}
+use Rattle.number.specs.Number.{two, twoAt, four, fourAt, wordAt}
+use Rattle.number.specs.Bytes.{part}
+use Rattle.number.proofs.Eights.{Octets, part-bytes}
 use Rattle.payload.specs.Content.{Bytes}
 use Rattle.heard.specs.Place.{typeAt, sizeAt, keyAt}
 

@@ -9,8 +9,8 @@ use mir.Syntax.{w8}
 use mir.Val.{Fits}
 use lib.Dec.{eqb}
 use lib.ListN.{length, getD}
-use Rattle.field.specs.Number.{four, fourAt, wordAt}
-use Rattle.field.proofs.Eights.{Octets}
+use Rattle.number.specs.Number.{four, fourAt, wordAt}
+use Rattle.number.proofs.Eights.{Octets}
 use Rattle.payload.specs.Content.{Bytes}
 use Rattle.heard.specs.Place.{typeAt, sizeAt, flagsAt, announcesAt, Sized, v4, v6, key, Payload}
 

@@ -7,13 +7,13 @@ use mir.Syntax.{w8, w64}
 use mir.Val.{Fits}
 use lib.ListN.{length, getD, take, drop, set, length-set, length-take, length-drop, take-append-drop}
 use lib.Seq.{sets, length-sets, length-take-le, getD-drop, drop-drop, drop-cons, take-all}
+use Rattle.number.specs.Number.{two, twoAt, four, fourAt, wordAt, twoBytes, fourBytes, wordBytes}
+use Rattle.number.specs.Bytes.{part}
+use Rattle.number.proofs.Eights.{Octets}
+use Rattle.number.proofs.Numbers.{bytes-of-word}
 use Rattle.field.specs.declared.words.Words.{Words}
-use Rattle.field.specs.Number.{two, twoAt, four, fourAt, wordAt, twoBytes, fourBytes, wordBytes}
-use Rattle.field.specs.Places.{part}
 use Rattle.field.specs.Words.{wordsAt}
 use Rattle.field.specs.Cells.{field}
-use Rattle.field.proofs.Eights.{Octets}
-use Rattle.field.proofs.Numbers.{bytes-of-word}
 use Rattle.payload.specs.Content.{Bytes}
 use Rattle.item.specs.declared.place.Part.{Part}
 use Rattle.item.specs.Place.{partIn, Lies}

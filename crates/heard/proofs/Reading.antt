@@ -10,11 +10,11 @@ use lib.Dec.{leb, eqb}
 use lib.ListN.{length, getD, take, drop, replicate, length-drop}
 use lib.Seq.{getD-drop, drop-drop, take-add, length-take-le}
 use Rattle.change.specs.Change.{Change, announce, withdraw}
-use Rattle.field.specs.Number.{two, twoAt, four, fourAt}
-use Rattle.field.specs.Places.{part}
-use Rattle.field.specs.RouterKey.{goodRouterKey}
-use Rattle.field.specs.Tag.{tagOf, goodBody}
-use Rattle.field.proofs.Sizes.{both}
+use Rattle.number.specs.Number.{two, twoAt, four, fourAt}
+use Rattle.number.specs.Bytes.{part}
+use Rattle.body.specs.RouterKey.{goodRouterKey}
+use Rattle.body.specs.Tag.{tagOf, goodBody}
+use Rattle.body.proofs.Sizes.{both}
 use Rattle.payload.specs.Content.{Bytes}
 use Rattle.message.specs.declared.version.Version.{Version}
 use Rattle.message.specs.Version.{versionNumber, speaks, timesIn, endLength}

@@ -5,7 +5,7 @@ use mathlib.Core.List.{List, [], _∷_, _++_}
 use mathlib.Core.Bool.{Bool, true, false, cond}
 use native.Mathlib.Omega.{arith}
 use lib.ListN.{length}
-use Rattle.field.proofs.Eights.{Octets}
+use Rattle.number.proofs.Eights.{Octets}
 use Rattle.payload.specs.Content.{Bytes}
 use Rattle.heard.specs.declared.sums.Sums.{Sums}
 use Rattle.heard.specs.Place.{typeAt, sizeAt, keyAt, announcesAt, Sized, v4, v6, key, Payload}

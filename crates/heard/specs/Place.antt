@@ -9,8 +9,8 @@ use Rattle.order.specs.declared.Ordering.{Ordering}
 use Rattle.order.specs.declared.Ordering.the-variants.{Less, Equal, Greater}
 use Rattle.order.specs.Comparison.{bytes}
 use Rattle.change.specs.Change.{Change, announce, withdraw}
-use Rattle.field.specs.Number.{fourAt}
-use Rattle.field.specs.Places.{part}
+use Rattle.number.specs.Number.{fourAt}
+use Rattle.number.specs.Bytes.{part}
 use Rattle.payload.specs.Content.{Bytes}
 use Rattle.message.specs.Record.{goodRecord}
 use Rattle.message.specs.Hear.{Told}

@@ -3,8 +3,8 @@ use Prim.Native.Nat.{ℕ, _+_, _≤_, _<_}
 use mathlib.Core.Path.{_≡_}
 use mathlib.Core.List.{_++_}
 use lib.ListN.{length}
+use Rattle.number.specs.Number.{twoBytes, wordBytes}
 use Rattle.field.specs.declared.words.Words.{Words}
-use Rattle.field.specs.Number.{twoBytes, wordBytes}
 use Rattle.payload.specs.Content.{Bytes}
 use Rattle.heard.specs.Place.{typeAt}
 

@@ -2,14 +2,14 @@
 use crate::put::four_words;
 use crate::put::six_words;
 use crate::put::store_words;
-use field::origin::origin_ok;
+use body::origin::origin_ok;
 use field::words::Words;
 use message::version::Version;
 use message::version::is_spoken;
 ghost use mathlib.Core.Path.{_≡_};
 ghost use Prim.Native.Nat.{_<_};
 ghost use lib.ListN.{drop};
-ghost use Rattle.field.specs.Origin.{goodOrigin};
+ghost use Rattle.body.specs.Origin.{goodOrigin};
 ghost use Rattle.message.specs.Record.{goodRecord};
 ghost use Rattle.heard.specs.Place.{keyAt};
 ghost use Rattle.heard.specs.Put.{wordsBytes, Prefix};

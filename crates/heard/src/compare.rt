@@ -2,13 +2,13 @@
 use crate::front::front_at;
 use crate::place::size_at;
 use crate::place::type_at;
-use field::compare::compare;
-use field::number::word_at;
+use number::compare::compare;
+use number::word_at;
 use order::Ordering;
 ghost use mathlib.Core.Path.{_≡_};
 ghost use Rattle.order.specs.Comparison.{number, bytes};
 ghost use Rattle.change.specs.Application.{isEqual};
-ghost use Rattle.field.specs.Number.{wordAt};
+ghost use Rattle.number.specs.Number.{wordAt};
 ghost use Rattle.heard.specs.Place.{keyAt, precedes, Payload};
 ghost use Rattle.heard.specs.Compare.{Of, Alike, Fronted};
 

@@ -1,6 +1,6 @@
 // The front of a record: the first eight bytes of its key as one number.
 use crate::place::type_at;
-use field::number::word_at;
+use number::word_at;
 ghost use mathlib.Core.Path.{_≡_};
 ghost use Rattle.item.specs.Front.{frontKey};
 ghost use Rattle.heard.specs.Place.{keyAt, Payload};

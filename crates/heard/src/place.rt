@@ -1,5 +1,5 @@
 // Where a payload message has its parts.
-use field::number::word_at;
+use number::word_at;
 ghost use mathlib.Core.Path.{_≡_};
 ghost use Prim.Native.Nat.{_≤_};
 ghost use Rattle.heard.specs.Place.{typeAt, sizeAt, announcesAt, Payload};

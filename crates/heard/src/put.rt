@@ -1,16 +1,16 @@
 // The snapshot's field of a message's record, written.
 use crate::place::size_at;
 use crate::place::type_at;
-use field::number::word_at;
 use field::words::Words;
 use item::copy::copy;
 use item::copy::store_word;
 use item::place::Part;
+use number::word_at;
 ghost use mathlib.Core.Path.{_≡_};
 ghost use Prim.Native.Nat.{_+_, _≤_, _<_};
 ghost use lib.ListN.{length, set};
 ghost use lib.Seq.{sets};
-ghost use Rattle.field.specs.Number.{twoBytes};
+ghost use Rattle.number.specs.Number.{twoBytes};
 ghost use Rattle.field.specs.Words.{wordsAt};
 ghost use Rattle.heard.specs.Place.{keyAt, Payload};
 ghost use Rattle.heard.specs.Field.{recordField};

@@ -1,6 +1,6 @@
 // The times of an End of Data.
-use field::number::word_at;
 use message::version::Version;
+use number::word_at;
 use serial::timing::Timing;
 ghost use mathlib.Core.Path.{_≡_};
 ghost use lib.ListN.{drop};

@@ -6,7 +6,7 @@ use native.Mathlib.Omega.{arith}
 use native.Mathlib.Nat.{zero-add}
 use lib.ListN.{length, getD, take, drop, set, length-set, length-take, length-drop, length-append, take-append-drop, drop-of-length-le}
 use lib.Seq.{sets, sets-eq, drop-cons, drop-drop, drop-set-lt, getD-drop, take-length, take-all, take-at, drop-at}
-use Rattle.field.specs.declared.tag.Form.the-variants.{Delta}
+use Rattle.body.specs.declared.tag.Form.the-variants.{Delta}
 use Rattle.payload.specs.Content.{Bytes}
 use Rattle.payload.specs.Payload.{encode}
 use Rattle.item.specs.declared.reading.Reading.the-variants.{Withdrawn, Announced}

@@ -13,7 +13,7 @@ use Rattle.order.specs.Map.{All, Sorted}
 use Rattle.change.specs.Merge.{mergeAll}
 use Rattle.change.specs.History.{lastN}
 use Rattle.change.proofs.Chain.{all-drop}
-use Rattle.field.specs.declared.tag.Form.the-variants.{Delta}
+use Rattle.body.specs.declared.tag.Form.the-variants.{Delta}
 use Rattle.field.specs.Head.{Front, end, cut, whole, front}
 use Rattle.field.specs.Cells.{cells, cellsF, cellsAt}
 use Rattle.field.proofs.Walk.{good-start}

@@ -8,7 +8,7 @@ use borrow.Author.Tests.{not-true, not-false}
 use Rattle.serial.specs.declared.Serial.{Serial}
 use Rattle.serial.specs.declared.Session.{Session}
 use Rattle.serial.specs.Serial.{sessionOf}
-use Rattle.field.specs.declared.tag.Form.the-variants.{Snapshot, Delta}
+use Rattle.body.specs.declared.tag.Form.the-variants.{Snapshot, Delta}
 use Rattle.payload.specs.Content.{Bytes}
 use Rattle.payload.specs.Limit.{limit}
 use Rattle.delta.specs.declared.refusal.Refusal.{Refusal}

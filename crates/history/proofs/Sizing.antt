@@ -15,8 +15,8 @@ use Rattle.order.specs.Walk.{emit}
 use Rattle.order.proofs.Walk.{walk-nil, walk-right, walk-left, walk-less, walk-equal, walk-greater}
 use Rattle.change.specs.Change.{Change, announce, withdraw, update, unlessEqual}
 use Rattle.change.specs.Merge.{table, mergeAt, merge, mergeAll}
-use Rattle.field.specs.declared.tag.Form.the-variants.{Delta}
-use Rattle.field.specs.Run.{AllBytes}
+use Rattle.number.specs.Bytes.{AllBytes}
+use Rattle.body.specs.declared.tag.Form.the-variants.{Delta}
 use Rattle.field.specs.Cells as run
 use Rattle.payload.specs.Content.{Bytes, valuesFor}
 use Rattle.payload.specs.Payload.{changes, encode}

@@ -4,7 +4,7 @@ use mathlib.Core.List.{List}
 use mathlib.Core.Bool.{Bool, _&&_}
 use lib.Dec.{leb}
 use lib.ListN.{length, take}
-use Rattle.field.specs.declared.tag.Form.the-variants.{Snapshot, Delta}
+use Rattle.body.specs.declared.tag.Form.the-variants.{Snapshot, Delta}
 use Rattle.payload.specs.Content.{Bytes}
 use Rattle.payload.specs.Limit.{limit}
 use Rattle.past.specs.declared.state.History.{History}

@@ -7,7 +7,7 @@ use Rattle.order.specs.Comparison.{bytes}
 use Rattle.order.specs.Map.{All}
 use Rattle.change.specs.Merge.{mergeAll}
 use Rattle.change.specs.History.{lastN}
-use Rattle.field.specs.declared.tag.Form.the-variants.{Delta}
+use Rattle.body.specs.declared.tag.Form.the-variants.{Delta}
 use Rattle.field.specs.declared.verdict.Verdict.the-variants.{Fine}
 use Rattle.field.specs.Verdict.{verdict}
 use Rattle.payload.specs.Content.{Bytes}

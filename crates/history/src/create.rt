@@ -1,9 +1,9 @@
 // Creation.
 use crate::well_formed::good_keep;
+use body::tag::Form;
 use delta::admit::Admitted;
 use delta::admit::within_limit;
 use delta::refusal::Refusal;
-use field::tag::Form;
 use past::create::Created;
 use past::create::Creation;
 use past::state::History;

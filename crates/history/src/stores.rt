@@ -1,5 +1,5 @@
 // The two lent stores: the current snapshot, and the deltas one behind the other.
-use field::tag::Form;
+use body::tag::Form;
 use item::copy::copy;
 use item::place::Part;
 use item::reading::Reading;

@@ -1,9 +1,9 @@
 // Whether a history, lent with its stores, is well formed: all others get refusal 7.
+use body::tag::Form;
 use delta::admit::within_limit;
-use field::tag::Form;
 use field::verdict::Verdict;
-use field::verdict::check;
 use past::state::History;
+use verdict::check::check;
 ghost use mathlib.Core.Path.{_≡_};
 ghost use Prim.Native.Nat.{_^_, _<_, _≤_};
 ghost use lib.ListN.{take};

@@ -9,8 +9,8 @@ use mir.Syntax.{w8, w64}
 use mir.Val.{Fits}
 use lib.ListN.{length, getD, take, drop, set, length-set, length-take, length-drop}
 use lib.Seq.{sets, set-out, length-sets, take-add, drop-drop, drop-cons, length-take-le}
-use Rattle.field.specs.Number.{wordAt, twoBytes, fourBytes, wordBytes}
-use Rattle.field.proofs.Numbers.{bytes-of-word}
+use Rattle.number.specs.Number.{wordAt, twoBytes, fourBytes, wordBytes}
+use Rattle.number.proofs.Numbers.{bytes-of-word}
 use Rattle.payload.specs.Content.{Bytes}
 use Rattle.item.specs.declared.place.Part.{Part}
 use Rattle.item.specs.Place.{partIn, Lies}

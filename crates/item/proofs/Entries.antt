@@ -6,16 +6,17 @@ use native.Mathlib.Omega.{arith}
 use lib.ListN.{length, drop}
 use Rattle.order.specs.Map.{Item}
 use Rattle.change.specs.Change.{Change}
+use Rattle.number.specs.Bytes.{part}
+use Rattle.body.specs.declared.tag.Form.{Form}
+use Rattle.body.specs.declared.tag.Action.{Action}
+use Rattle.body.specs.declared.tag.Tag.{Tag}
+use Rattle.body.specs.Tag.{tagOf, kindOf}
 use Rattle.field.specs.declared.head.Field.{Field}
 use Rattle.field.specs.declared.head.Field.the-variants.{End, Cut, Whole}
-use Rattle.field.specs.declared.tag.Form.{Form}
-use Rattle.field.specs.declared.tag.Action.{Action}
-use Rattle.field.specs.declared.tag.Tag.{Tag}
 use Rattle.field.specs.declared.key.Key.{Key}
-use Rattle.field.specs.Tag.{tagOf, kindOf}
 use Rattle.field.specs.Key.{keyOf}
 use Rattle.field.specs.Cells.{Cell}
-use Rattle.field.specs.Places.{part, fieldAt, keyIn, keyPlace}
+use Rattle.field.specs.Places.{fieldAt, keyIn, keyPlace}
 use Rattle.field.proofs.Fields.{whole-at, body-ordered, body-within, field-long}
 use Rattle.field.proofs.Keys.{key-fits, key-in}
 use Rattle.field.proofs.Walk.{good-end, good-cells, good-cut, good-body, good-next}

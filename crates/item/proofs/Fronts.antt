@@ -15,17 +15,17 @@ use Rattle.order.specs.declared.Ordering.{Ordering}
 use Rattle.order.specs.declared.Ordering.the-variants.{Less, Equal, Greater}
 use Rattle.order.specs.Comparison.{flip, orElse, number, bytes}
 use Rattle.order.proofs.Comparison.{strings, less-number, equal-number, less≢greater}
-use Rattle.field.specs.declared.tag.Form.{Form}
-use Rattle.field.specs.declared.tag.Action.{Action}
-use Rattle.field.specs.declared.tag.Action.the-variants.{Hold, Announce, Withdraw, Update}
-use Rattle.field.specs.declared.tag.Tag.{Tag}
-use Rattle.field.specs.declared.tag.Tag.the-variants.{Unknown, Origin, RouterKey, Aspa}
-use Rattle.field.specs.Number.{fourAt, wordAt}
-use Rattle.field.specs.RouterKey.{goodRouterKey}
-use Rattle.field.specs.Tag.{tagOf, kindNumber, kindOf, goodAspaBody, goodTagged, goodBody}
+use Rattle.number.specs.Number.{fourAt, wordAt}
+use Rattle.number.specs.Bytes.{AllBytes}
+use Rattle.body.specs.declared.tag.Form.{Form}
+use Rattle.body.specs.declared.tag.Action.{Action}
+use Rattle.body.specs.declared.tag.Action.the-variants.{Hold, Announce, Withdraw, Update}
+use Rattle.body.specs.declared.tag.Tag.{Tag}
+use Rattle.body.specs.declared.tag.Tag.the-variants.{Unknown, Origin, RouterKey, Aspa}
+use Rattle.body.specs.RouterKey.{goodRouterKey}
+use Rattle.body.specs.Tag.{tagOf, kindNumber, kindOf, goodAspaBody, goodTagged, goodBody}
+use Rattle.body.proofs.Sizes.{both, origin-size, aspa-parts, update-parts}
 use Rattle.field.specs.Key.{keyOf}
-use Rattle.field.specs.Run.{AllBytes}
-use Rattle.field.proofs.Sizes.{both, origin-size, aspa-parts, update-parts}
 use Rattle.payload.specs.Content.{Bytes}
 use Rattle.item.specs.Front.{packs, frontKey, frontIn}
 

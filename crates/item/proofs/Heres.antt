@@ -9,15 +9,16 @@ use mir.Val.{Fits}
 use lib.Dec.{eqb}
 use lib.ListN.{length, getD, take, drop, length-append, length-drop}
 use lib.Seq.{drop-drop, take-at}
-use Rattle.field.specs.declared.tag.Form.{Form}
-use Rattle.field.specs.Number.{wordAt}
-use Rattle.field.specs.declared.tag.Tag.{Tag}
-use Rattle.field.specs.declared.tag.Tag.the-variants.{Unknown, Origin, RouterKey, Aspa}
-use Rattle.field.specs.Tag.{tagOf, kindNumber, kindOf}
+use Rattle.number.specs.Number.{wordAt}
+use Rattle.number.specs.Bytes.{AllBytes}
+use Rattle.body.specs.declared.tag.Form.{Form}
+use Rattle.body.specs.declared.tag.Tag.{Tag}
+use Rattle.body.specs.declared.tag.Tag.the-variants.{Unknown, Origin, RouterKey, Aspa}
+use Rattle.body.specs.Tag.{tagOf, kindNumber, kindOf}
 use Rattle.field.specs.Head.{whole, front}
 use Rattle.field.specs.Key.{keyOf}
 use Rattle.field.specs.Cells.{Cell}
-use Rattle.field.specs.Run.{AllBytes, GoodAt}
+use Rattle.field.specs.Run.{GoodAt}
 use Rattle.field.proofs.Fronts.{opens}
 use Rattle.field.proofs.Run.{cells-more}
 use Rattle.field.proofs.Common.{front-same, Found, found, good-behind}

@@ -7,11 +7,12 @@ use native.Mathlib.Omega.{arith}
 use lib.ListN.{length, getD, take, drop, length-take, length-drop}
 use lib.Seq.{take-nil, drop-drop, take-take, getD-take, getD-drop}
 use Rattle.change.specs.Change.{announce, withdraw, update}
-use Rattle.field.specs.Number.{twoAt}
-use Rattle.field.specs.Tag.{tagOf, kindOf, goodBody}
-use Rattle.field.specs.Aspa.{goodAspa, goodUpdate, formerSize, formerOf, newOf}
-use Rattle.field.specs.Places.{part, keyPlace}
-use Rattle.field.proofs.Sizes.{origin-size, key-size, providers-size, aspa-parts, update-parts}
+use Rattle.number.specs.Number.{twoAt}
+use Rattle.number.specs.Bytes.{part}
+use Rattle.body.specs.Tag.{tagOf, kindOf, goodBody}
+use Rattle.body.specs.Aspa.{goodAspa, goodUpdate, formerSize, formerOf, newOf}
+use Rattle.body.proofs.Sizes.{origin-size, key-size, providers-size, aspa-parts, update-parts}
+use Rattle.field.specs.Places.{keyPlace}
 use Rattle.payload.specs.Content.{Bytes, actionOf}
 use Rattle.payload.proofs.Known as known
 use Rattle.payload.proofs.Known.{Known}

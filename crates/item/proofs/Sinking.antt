@@ -7,8 +7,8 @@ use native.Mathlib.Omega.{arith}
 use native.Mathlib.Nat.{add-zero}
 use lib.ListN.{length, getD, take, drop, set, length-set, length-append, length-take, length-drop}
 use lib.Seq.{sets, set-out, drop-cons}
-use Rattle.field.specs.declared.tag.Form.{Form}
-use Rattle.field.specs.declared.tag.Form.the-variants.{Snapshot, Delta}
+use Rattle.body.specs.declared.tag.Form.{Form}
+use Rattle.body.specs.declared.tag.Form.the-variants.{Snapshot, Delta}
 use Rattle.payload.specs.Content.{Bytes, countOf, valuesFor}
 use Rattle.item.specs.declared.place.Part.{Part}
 use Rattle.item.specs.declared.place.Act.{Act}

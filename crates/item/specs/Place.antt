@@ -5,8 +5,9 @@ use mathlib.Core.Option.{Option, none, some}
 use lib.ListN.{length}
 use Rattle.order.specs.Map.{Item}
 use Rattle.change.specs.Change.{Change, announce, withdraw, update}
+use Rattle.number.specs.Bytes.{part}
 use Rattle.field.specs.declared.key.Key.{Key}
-use Rattle.field.specs.Places.{part, KeyFits, keyIn}
+use Rattle.field.specs.Places.{KeyFits, keyIn}
 use Rattle.payload.specs.Content.{Bytes}
 use Rattle.item.specs.declared.place.Part.{Part}
 use Rattle.item.specs.declared.place.Act.{Act}

@@ -5,8 +5,8 @@ use lib.ListN.{length, getD, drop}
 use Rattle.order.specs.Map.{Item}
 use Rattle.change.specs.Change.{Change}
 use Rattle.change.specs.Difference as change
-use Rattle.field.specs.declared.tag.Form.{Form}
-use Rattle.field.specs.declared.tag.Form.the-variants.{Snapshot, Delta}
+use Rattle.body.specs.declared.tag.Form.{Form}
+use Rattle.body.specs.declared.tag.Form.the-variants.{Snapshot, Delta}
 use Rattle.field.specs.Cells as run
 use Rattle.payload.specs.Content.{Bytes, tagFor, valuesFor}
 use Rattle.payload.specs.Count.{announces, withdraws, sumOf}

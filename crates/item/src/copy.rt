@@ -1,12 +1,12 @@
 // Copying into a lent slice: eight bytes at a time, the rest singly.
 use crate::place::Part;
-use field::number::lower;
-use field::number::word_at;
+use number::lower;
+use number::word_at;
 ghost use mathlib.Core.Path.{_≡_};
 ghost use Prim.Native.Nat.{_+_, _≤_, _<_};
 ghost use lib.ListN.{length, take, drop, set};
 ghost use lib.Seq.{sets};
-ghost use Rattle.field.specs.Number.{twoBytes, fourBytes, wordBytes};
+ghost use Rattle.number.specs.Number.{twoBytes, fourBytes, wordBytes};
 ghost use Rattle.item.specs.Place.{Lies, partIn};
 ghost use Rattle.item.specs.Copy.{Spans};
 

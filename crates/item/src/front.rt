@@ -1,5 +1,5 @@
 // The front of a key: its first eight bytes as one number. Where two fronts differ, the keys are ordered as they are.
-use field::number::wide;
+use number::wide;
 ghost use mathlib.Core.Path.{_≡_};
 ghost use Rattle.item.specs.Front.{frontIn};
 

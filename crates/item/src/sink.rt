@@ -2,8 +2,8 @@
 use crate::copy::copy;
 use crate::place::Act;
 use crate::place::Part;
+use body::tag::Form;
 use field::key::Key;
-use field::tag::Form;
 ghost use mathlib.Core.Path.{_≡_};
 ghost use mathlib.Core.List.{_∷_, []};
 ghost use Prim.Native.Nat.{_+_, _*_, _/_, _%_, _^_, _≤_, _<_};

@@ -2,7 +2,7 @@
 use crate::place::Act;
 use crate::place::Held;
 use crate::place::Part;
-use field::compare::compare;
+use number::compare::compare;
 use order::Ordering;
 ghost use mathlib.Core.Path.{_≡_};
 ghost use Rattle.order.specs.Comparison.{bytes};

@@ -4,9 +4,9 @@ use mathlib.Core.Path.{_≡_, refl}
 use mathlib.Core.List.{List, [], _∷_, _++_}
 use lib.ListN.{replicate}
 use Rattle.order.specs.Walk.{walk}
-use Rattle.field.specs.Number.{twoBytes, fourBytes}
-use Rattle.field.specs.Tag.{tagOf, kindOf, goodBody, sensible}
-use Rattle.field.specs.Origin.{clean, goodPrefix, goodOrigin}
+use Rattle.number.specs.Number.{twoBytes, fourBytes}
+use Rattle.body.specs.Tag.{tagOf, kindOf, goodBody, sensible}
+use Rattle.body.specs.Origin.{clean, goodPrefix, goodOrigin}
 use Rattle.field.specs.Head.{front}
 use Rattle.field.specs.Key.{keyOf}
 use Rattle.field.specs.Verdict.{verdict, verdictF, judge}

@@ -9,7 +9,7 @@ use Rattle.order.specs.Map.{lookup}
 use Rattle.change.specs.Change.{announce, withdraw}
 use Rattle.change.specs.Difference as change
 use Rattle.change.specs.Application.{apply, fits}
-use Rattle.field.specs.declared.tag.Form.the-variants.{Snapshot}
+use Rattle.body.specs.declared.tag.Form.the-variants.{Snapshot}
 use Rattle.payload.specs.Content.{Bytes}
 use Rattle.payload.specs.Valid.{IsMap}
 use Rattle.payload.specs.Count.{announces, withdraws, sumOf}

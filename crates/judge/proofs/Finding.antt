@@ -18,16 +18,16 @@ use Rattle.order.specs.Map.{Item, All, lookup, own, Below, Sorted}
 use Rattle.order.proofs.Comparison.{strings}
 use Rattle.change.specs.Change.{Change}
 use Rattle.change.specs.Difference as change
-use Rattle.field.specs.declared.tag.Form.the-variants.{Snapshot}
+use Rattle.number.specs.Number.{wordAt}
+use Rattle.number.specs.Bytes.{part, AllBytes}
+use Rattle.body.specs.declared.tag.Form.the-variants.{Snapshot}
+use Rattle.body.specs.Tag.{kindOf}
+use Rattle.body.proofs.Digits.{snapshot-kind}
 use Rattle.field.specs.declared.key.Key.{Key}
 use Rattle.field.specs.Cells.{Cell, cells, field}
 use Rattle.field.specs.Cells as run
-use Rattle.field.specs.Number.{wordAt}
-use Rattle.field.specs.Tag.{kindOf}
-use Rattle.field.specs.Places.{part}
 pub use Rattle.field.specs.Places.{keyIn}
-use Rattle.field.specs.Run.{AllBytes, Run, done, more}
-use Rattle.field.proofs.Digits.{snapshot-kind}
+use Rattle.field.specs.Run.{Run, done, more}
 use Rattle.field.proofs.Encode.{field-front, rest-bytes}
 use Rattle.payload.specs.Content.{Bytes, entryOf, cellFor}
 use Rattle.payload.specs.Payload.{entries, encode, items}
@@ -42,7 +42,7 @@ use Rattle.item.specs.Reading.{Ready, FieldIs, Reads}
 use Rattle.item.proofs.Fronts.{front-less, drop-bytes, take-bytes, cons-bytes}
 use Rattle.item.proofs.Heres.{here, cell, said, front-is}
 use Rattle.item.proofs.Heres as heres
-use Rattle.walk.specs.Seek.{Seeks}
+use Rattle.turn.specs.Seek.{Seeks}
 use Rattle.walk.proofs.Lengths.{body-bytes}
 use Rattle.heard.specs.Place.{typeAt, sizeAt, keyAt, Payload, Sized, v4, v6, key}
 use Rattle.heard.specs.Field.{recordField}

@@ -17,7 +17,7 @@ use Rattle.change.specs.Change.{announce, withdraw}
 use Rattle.change.specs.Difference as change
 use Rattle.change.specs.Application.{applyAt, apply}
 use Rattle.change.proofs.Whole.{apply-none}
-use Rattle.field.specs.declared.tag.Form.the-variants.{Snapshot}
+use Rattle.body.specs.declared.tag.Form.the-variants.{Snapshot}
 use Rattle.field.specs.Cells as run
 use Rattle.payload.specs.Content.{Bytes}
 use Rattle.payload.specs.Valid.{IsMap}

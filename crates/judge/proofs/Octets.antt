@@ -14,17 +14,17 @@ use Rattle.change.specs.Change.{Change, announce, withdraw}
 use Rattle.change.specs.Difference as change
 use Rattle.change.specs.Application.{applyAt, apply}
 use Rattle.serial.specs.declared.timing.Timing.{Timing}
-use Rattle.field.specs.declared.tag.Form.the-variants.{Snapshot}
+use Rattle.number.specs.Number.{twoAt, fourAt}
+use Rattle.number.specs.Bytes.{part, AllBytes}
+use Rattle.body.specs.declared.tag.Form.the-variants.{Snapshot}
+use Rattle.body.proofs.Sizes.{origin-size, key-size}
 use Rattle.field.specs.declared.verdict.Verdict.the-variants.{Fine}
 use Rattle.field.specs.Verdict.{verdict}
-use Rattle.field.specs.Number.{twoAt, fourAt}
 use Rattle.field.specs.Cells.{Cell}
 use Rattle.field.specs.Cells as run
-use Rattle.field.specs.Places.{part}
-use Rattle.field.specs.Run.{AllBytes, Run, done, more}
+use Rattle.field.specs.Run.{Run, done, more}
 use Rattle.field.proofs.Run.{fine-run}
 use Rattle.field.proofs.Encode.{field-front, rest-bytes}
-use Rattle.field.proofs.Sizes.{origin-size, key-size}
 use Rattle.payload.specs.Content.{Bytes, entryOf, cellFor}
 use Rattle.payload.specs.Valid.{ValidValue, origin, routerKey, aspa}
 use Rattle.payload.specs.Payload.{entries, encode, items}

@@ -10,7 +10,7 @@ use lib.Seq.{sets, length-sets}
 use Rattle.order.specs.Comparison.{bytes}
 use Rattle.change.specs.Difference as change
 use Rattle.change.specs.Application.{apply}
-use Rattle.field.specs.declared.tag.Form.the-variants.{Snapshot}
+use Rattle.body.specs.declared.tag.Form.the-variants.{Snapshot}
 use Rattle.payload.specs.Content.{Bytes}
 use Rattle.payload.specs.Payload.{encode, items}
 use Rattle.item.proofs.Sinking.{sets-append}

@@ -13,7 +13,7 @@ use Rattle.order.proofs.Map.{none≢some}
 use Rattle.change.specs.Change.{announce, withdraw}
 use Rattle.change.specs.Difference as change
 use Rattle.change.specs.Application.{applyAt, apply, fits}
-use Rattle.field.specs.declared.tag.Form.the-variants.{Snapshot}
+use Rattle.body.specs.declared.tag.Form.the-variants.{Snapshot}
 use Rattle.payload.specs.Content.{Bytes}
 use Rattle.payload.specs.Valid.{ValidValue, Valid, IsMap, origin, routerKey, aspa}
 use Rattle.payload.proofs.Closed.{apply-map}

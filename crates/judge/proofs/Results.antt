@@ -17,9 +17,9 @@ use Rattle.change.specs.Difference as change
 use Rattle.change.specs.Difference.{diff}
 use Rattle.change.specs.Application.{applyAt, apply, fits, fitsAt, Applies}
 use Rattle.change.proofs.Whole.{apply-sorted, apply-lookup, diff-sorted, applies, yields}
-use Rattle.field.specs.declared.tag.Form.the-variants.{Snapshot}
+use Rattle.number.specs.Bytes.{AllBytes}
+use Rattle.body.specs.declared.tag.Form.the-variants.{Snapshot}
 use Rattle.field.specs.Cells as run
-use Rattle.field.specs.Run.{AllBytes}
 use Rattle.payload.specs.Content.{Bytes}
 use Rattle.payload.specs.Valid.{IsMap}
 use Rattle.payload.specs.Payload.{encode, items, changes}

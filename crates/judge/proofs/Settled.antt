@@ -15,7 +15,7 @@ use Rattle.change.specs.Change.{Change, announce, withdraw, update}
 use Rattle.change.specs.Difference as change
 use Rattle.change.specs.Application.{applyAt, apply}
 use Rattle.change.proofs.Whole.{apply-sorted, apply-lookup, apply-none}
-use Rattle.field.specs.declared.tag.Form.the-variants.{Snapshot}
+use Rattle.body.specs.declared.tag.Form.the-variants.{Snapshot}
 use Rattle.payload.specs.Content.{Bytes}
 use Rattle.payload.specs.Valid.{IsMap}
 use Rattle.message.specs.Hear.{Told}

@@ -22,10 +22,10 @@ use Rattle.change.specs.Change.{Change, announce, withdraw}
 use Rattle.change.specs.Difference as change
 use Rattle.change.specs.Application.{apply, applyAt}
 use Rattle.change.proofs.Whole.{apply-none}
-use Rattle.field.specs.declared.tag.Form.the-variants.{Snapshot}
+use Rattle.number.specs.Bytes.{part}
+use Rattle.body.specs.declared.tag.Form.the-variants.{Snapshot}
 use Rattle.field.specs.Cells.{field}
 use Rattle.field.specs.Cells as run
-use Rattle.field.specs.Places.{part}
 use Rattle.payload.specs.Content.{Bytes, cellFor}
 use Rattle.payload.specs.Payload.{encode, items}
 use Rattle.item.specs.declared.place.Part.{Part}

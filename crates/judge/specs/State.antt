@@ -11,8 +11,8 @@ use Rattle.order.specs.Comparison.{bytes}
 use Rattle.order.specs.Map.{Item, All, lookup, Below}
 use Rattle.change.specs.Difference as change
 use Rattle.change.specs.Application.{apply}
-use Rattle.field.specs.declared.tag.Form.the-variants.{Snapshot}
-use Rattle.field.specs.Places.{part}
+use Rattle.number.specs.Bytes.{part}
+use Rattle.body.specs.declared.tag.Form.the-variants.{Snapshot}
 use Rattle.payload.specs.Content.{Bytes}
 use Rattle.payload.specs.Payload.{encode, items}
 use Rattle.item.specs.declared.reading.Reading.the-variants.{Announced}

@@ -1,7 +1,6 @@
 // A message's record sought in the snapshot.
 use field::key::Key;
 use field::key::key_compare;
-use field::number::word_at;
 use heard::front::front_at;
 use heard::place::type_at;
 use heard::put::put_record;
@@ -9,8 +8,9 @@ use item::front::front_in;
 use item::reading::Read;
 use item::reading::Reading;
 use item::reading::read_at;
+use number::word_at;
 use order::Ordering;
-use walk::seek::seek;
+use turn::seek::seek;
 ghost use mathlib.Core.Path.{_≡_};
 ghost use Prim.Native.Nat.{_≤_};
 ghost use lib.ListN.{length};

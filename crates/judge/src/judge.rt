@@ -2,10 +2,10 @@
 use crate::least::least_fault;
 use crate::put::put;
 use batch::survey::survey;
+use body::tag::Form;
 use delta::admit::Admitted;
 use delta::admit::admit_one;
 use delta::refusal::Refusal;
-use field::tag::Form;
 use heard::hear::Heard;
 use heard::hear::Stop;
 use heard::hear::hear;

@@ -13,7 +13,7 @@ use lib.Seq.{take-length, take-append-seam}
 use Rattle.order.specs.Comparison.{bytes}
 use Rattle.change.proofs.Whole.{merge-earlier}
 use Rattle.serial.specs.declared.Serial.{Serial}
-use Rattle.field.specs.declared.tag.Form.the-variants.{Snapshot, Delta}
+use Rattle.body.specs.declared.tag.Form.the-variants.{Snapshot, Delta}
 use Rattle.field.specs.declared.verdict.Verdict.the-variants.{Fine}
 use Rattle.field.specs.Head.{front}
 use Rattle.field.specs.Verdict.{judge, verdictF, verdict}

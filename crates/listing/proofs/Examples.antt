@@ -2,9 +2,9 @@
 use mathlib.Core.Path.{_≡_, refl}
 use mathlib.Core.List.{[], _∷_}
 use Rattle.order.specs.Walk.{walk}
-use Rattle.field.specs.Origin.{clean, goodPrefix, goodOrigin}
-use Rattle.field.specs.Aspa.{asns, ascending, goodProviders, goodAspa, sensibleAsns, sensibleProviders, sensibleAspa}
-use Rattle.field.specs.Tag.{tagOf, kindOf, goodBody, sensible}
+use Rattle.body.specs.Origin.{clean, goodPrefix, goodOrigin}
+use Rattle.body.specs.Aspa.{asns, ascending, goodProviders, goodAspa, sensibleAsns, sensibleProviders, sensibleAspa}
+use Rattle.body.specs.Tag.{tagOf, kindOf, goodBody, sensible}
 use Rattle.field.specs.Head.{front}
 use Rattle.field.specs.Key.{keyOf}
 use Rattle.field.specs.Verdict.{judge, verdictF, verdict}

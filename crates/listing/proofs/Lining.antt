@@ -7,9 +7,10 @@ use native.Mathlib.Omega.{arith}
 use borrow.Author.Tests.{eq-eqb, ne-eqb, lt-ltb, le-ltb}
 use lib.ListN.{length, getD, drop, length-append, drop-of-length-le}
 use lib.Seq.{drop-cons}
+use Rattle.number.specs.Bytes.{part}
 use Rattle.field.specs.declared.head.Field.{Field}
 use Rattle.field.specs.declared.head.Field.the-variants.{End, Cut, Whole}
-use Rattle.field.specs.Places.{part, fieldAt}
+use Rattle.field.specs.Places.{fieldAt}
 use Rattle.field.specs.Cells.{Cell, cells}
 use Rattle.field.proofs.Fields.{whole-at, cut-at, body-ordered, body-within, field-less}
 use Rattle.field.proofs.Run.{cells-at-cut}
@@ -17,7 +18,7 @@ use Rattle.field.proofs.Walk.{good-end, good-cells}
 use Rattle.payload.specs.Content.{Bytes}
 use Rattle.item.proofs.Sinking.{part-length}
 use Rattle.payload.specs.Limit.{limit}
-use Rattle.field.specs.declared.tag.Form.the-variants.{Delta}
+use Rattle.body.specs.declared.tag.Form.the-variants.{Delta}
 use Rattle.listing.specs.Put.{Puts}
 use Rattle.listing.specs.Text.{hexDigit}
 use Rattle.listing.specs.Listing.{mark, hex, hexes, lineOf, linesOf}

@@ -1,7 +1,7 @@
 -- What the two entries answer, and what they leave in what was lent.
 use Prim.Native.Nat.{ℕ}
 use Rattle.serial.specs.declared.Serial.{Serial}
-use Rattle.field.specs.declared.tag.Form.the-variants.{Delta}
+use Rattle.body.specs.declared.tag.Form.the-variants.{Delta}
 use Rattle.payload.specs.Content.{Bytes}
 use Rattle.delta.specs.declared.refusal.Refusal.the-variants as refusal
 use Rattle.delta.specs.declared.admit.Admitted.{Admitted}

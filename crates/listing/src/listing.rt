@@ -1,10 +1,10 @@
 // The listing of a delta.
 use crate::report::Report;
 use crate::report::write_report;
+use body::tag::Form;
 use delta::admit::Admitted;
 use delta::admit::admit_one;
 use delta::refusal::Refusal;
-use field::tag::Form;
 use item::reading::Reading;
 use item::sink::Counts;
 use serial::Serial;
@@ -13,7 +13,7 @@ ghost use mathlib.Core.Path.{_≡_};
 ghost use lib.ListN.{length};
 ghost use Rattle.delta.specs.declared.admit.Admitted.the-variants.{Yes};
 ghost use Rattle.delta.specs.Admission.{admitOneOf};
-ghost use Rattle.field.specs.declared.tag.Form.the-variants.{Delta};
+ghost use Rattle.body.specs.declared.tag.Form.the-variants.{Delta};
 ghost use Rattle.delta.specs.Answer.{countsOf};
 ghost use Rattle.listing.specs.Answer.{listOf, listOut};
 

@@ -8,10 +8,10 @@ use Rattle.order.specs.Walk.{walk}
 use Rattle.change.specs.Change.{Change, announce, withdraw}
 use Rattle.change.specs.Difference.{Delta}
 use Rattle.serial.specs.declared.timing.Timing.{Timing}
-use Rattle.field.specs.Number.{twoBytes, fourBytes}
-use Rattle.field.specs.Tag.{tagOf, goodBody}
-use Rattle.field.specs.Origin.{clean, goodPrefix, goodOrigin}
-use Rattle.field.specs.RouterKey.{goodRouterKey}
+use Rattle.number.specs.Number.{twoBytes, fourBytes}
+use Rattle.body.specs.Tag.{tagOf, goodBody}
+use Rattle.body.specs.Origin.{clean, goodPrefix, goodOrigin}
+use Rattle.body.specs.RouterKey.{goodRouterKey}
 use Rattle.payload.specs.Content.{Bytes}
 use Rattle.message.specs.declared.version.Version.the-variants.{Rfc6810, Rfc8210}
 use Rattle.message.specs.Message.{Message, serialNotify, serialQuery, cacheResponse, ipv4Prefix, ipv6Prefix, endOfData, cacheReset, routerKey, errorReport, pdu, pdus}

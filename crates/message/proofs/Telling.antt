@@ -8,8 +8,8 @@ use lib.Dec.{eqb}
 use lib.ListN.{length, getD}
 use Rattle.order.specs.Map.{All}
 use Rattle.change.specs.Change.{Change, announce, withdraw}
-use Rattle.field.specs.declared.tag.Form.the-variants.{Delta}
-use Rattle.field.specs.Tag.{tagOf, goodBody}
+use Rattle.body.specs.declared.tag.Form.the-variants.{Delta}
+use Rattle.body.specs.Tag.{tagOf, goodBody}
 use Rattle.payload.specs.Content.{Bytes}
 use Rattle.payload.specs.Valid.{ValidValue, ValidChange, IsMap, origin, routerKey, validAnnounce, validWithdraw}
 use Rattle.message.specs.declared.version.Version.{Version}

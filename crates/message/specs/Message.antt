@@ -3,7 +3,7 @@ use Prim.Native.Nat.{ℕ, _+_}
 use mathlib.Core.List.{List, [], _∷_, _++_}
 use lib.ListN.{length}
 use Rattle.serial.specs.declared.timing.Timing.{Timing}
-use Rattle.field.specs.Number.{twoBytes, fourBytes}
+use Rattle.number.specs.Number.{twoBytes, fourBytes}
 use Rattle.payload.specs.Content.{Bytes}
 use Rattle.message.specs.declared.version.Version.{Version}
 use Rattle.message.specs.Version.{versionNumber, timesBytes, endLength}

@@ -5,8 +5,8 @@ use mathlib.Core.Bool.{cond, _&&_}
 use mathlib.Core.Option.{Option, none, some}
 use lib.Dec.{leb, eqb}
 use lib.ListN.{length, getD, drop}
-use Rattle.field.specs.Number.{twoAt, fourAt}
-use Rattle.field.specs.Places.{part}
+use Rattle.number.specs.Number.{twoAt, fourAt}
+use Rattle.number.specs.Bytes.{part}
 use Rattle.payload.specs.Content.{Bytes}
 use Rattle.message.specs.declared.version.Version.{Version}
 use Rattle.message.specs.Version.{versionNumber, speaks, timesIn, endLength}

@@ -6,9 +6,9 @@ use lib.Dec.{eqb}
 use lib.ListN.{getD, take, drop, replicate}
 use Rattle.change.specs.Change.{Change, announce, withdraw, update}
 use Rattle.serial.specs.declared.timing.Timing.{Timing}
-use Rattle.field.specs.declared.tag.Form.the-variants.{Snapshot}
-use Rattle.field.specs.Tag.{goodBody}
-use Rattle.field.specs.Origin.{family, address, prefixLength, maximumLength}
+use Rattle.body.specs.declared.tag.Form.the-variants.{Snapshot}
+use Rattle.body.specs.Tag.{goodBody}
+use Rattle.body.specs.Origin.{family, address, prefixLength, maximumLength}
 use Rattle.payload.specs.Content.{Bytes}
 use Rattle.message.specs.Message.{Message, serialNotify, serialQuery, cacheResponse, ipv4Prefix, ipv6Prefix, endOfData, cacheReset, routerKey, errorReport}
 

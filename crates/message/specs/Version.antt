@@ -5,7 +5,7 @@ use mathlib.Core.Bool.{Bool}
 use lib.Dec.{leb}
 use lib.ListN.{drop}
 use Rattle.serial.specs.declared.timing.Timing.{Timing}
-use Rattle.field.specs.Number.{fourAt, fourBytes}
+use Rattle.number.specs.Number.{fourAt, fourBytes}
 use Rattle.message.specs.declared.version.Version.{Version}
 use Rattle.message.specs.declared.version.Version.the-variants.{Rfc6810, Rfc8210}
 

@@ -1,7 +1,7 @@
 -- Comparison: of numbers, of lists, and what makes a comparison a total order.
 use mathlib.Core.Path.{_≡_}
 use mathlib.Core.List.{List, [], _∷_}
-use mathlib.Core.Bool.{cond}
+use mathlib.Core.Bool.{Bool, true, false, cond}
 use Prim.Native.Nat.{ℕ}
 use lib.Dec.{ltb}
 use Rattle.order.specs.declared.Ordering.{Ordering}
@@ -12,6 +12,12 @@ abbrev pub flip : Ordering → Ordering
 flip Less = Greater
 flip Equal = Equal
 flip Greater = Less
+
+-- the first stands below the second
+abbrev pub isLess : Ordering → Bool
+isLess Less = true
+isLess Equal = false
+isLess Greater = false
 
 -- the first comparison decides, or else the second
 abbrev pub orElse : Ordering → Ordering → Ordering

@@ -25,12 +25,12 @@ use Rattle.serial.specs.declared.order.Standing.the-variants.{Equal, Before, Un
 use Rattle.serial.specs.Serial.{distanceOf, sessionOf}
 use Rattle.serial.specs.Rfc1982.{standing}
 use Rattle.serial.proofs.Steps.{same-serial}
-use Rattle.field.specs.declared.tag.Form.the-variants.{Snapshot, Delta}
+use Rattle.body.specs.declared.tag.Form.the-variants.{Snapshot, Delta}
 use Rattle.field.specs.Cells as run
 use Rattle.payload.specs.Content.{Bytes}
 use Rattle.payload.specs.Payload.{encode, items, changes}
 use Rattle.payload.specs.Limit.{limit}
-use Rattle.field.proofs.Sizes.{both}
+use Rattle.body.proofs.Sizes.{both}
 use Rattle.delta.specs.declared.refusal.Refusal.{Refusal}
 use Rattle.delta.specs.declared.refusal.Refusal.the-variants.{NoRoom, OtherSession, NotServed, IllFormed, BadKeep, TooLong}
 use Rattle.delta.specs.Refusal.{Values}

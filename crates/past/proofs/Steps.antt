@@ -8,8 +8,8 @@ use native.Mathlib.Omega.{arith}
 use lib.Dec.{leb, eqb}
 use lib.ListN.{length}
 use borrow.Author.Tests.{leb-true, leb-false, le-leb, lt-leb, eqb-true, eqb-false, eq-eqb, ne-eqb}
-use Rattle.field.specs.declared.tag.Form.{Form}
-use Rattle.field.specs.declared.tag.Form.the-variants.{Snapshot}
+use Rattle.body.specs.declared.tag.Form.{Form}
+use Rattle.body.specs.declared.tag.Form.the-variants.{Snapshot}
 use Rattle.field.specs.declared.verdict.Verdict.{Verdict}
 use Rattle.field.specs.declared.verdict.Verdict.the-variants.{Fine, Bad, Senseless, NotAbove}
 use Rattle.field.specs.Verdict.{verdict}

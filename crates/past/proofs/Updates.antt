@@ -13,10 +13,10 @@ use borrow.Author.Tests.{leb-true, leb-false, eqb-true, eqb-false}
 use Rattle.change.specs.History.{lastN}
 use Rattle.change.proofs.Chain.{all-newest}
 use Rattle.serial.specs.declared.Serial.{Serial}
-use Rattle.field.specs.declared.tag.Form.the-variants.{Snapshot}
+use Rattle.number.specs.Bytes.{AllBytes}
+use Rattle.body.specs.declared.tag.Form.the-variants.{Snapshot}
 use Rattle.field.specs.declared.verdict.Verdict.the-variants.{Bad, Senseless, NotAbove}
 use Rattle.field.specs.Verdict.{verdict}
-use Rattle.field.specs.Run.{AllBytes}
 use Rattle.payload.specs.Content.{Bytes}
 use Rattle.payload.specs.Limit.{limit}
 use Rattle.item.specs.declared.sink.Counts.{Counts}

@@ -16,16 +16,16 @@ use Rattle.serial.specs.declared.Session.{Session}
 use Rattle.serial.specs.declared.order.Standing.the-variants.{Equal, Before, Unordered}
 use Rattle.serial.specs.Serial.{distanceOf, sessionOf}
 use Rattle.serial.specs.Rfc1982.{standing}
-use Rattle.field.specs.declared.tag.Form.the-variants.{Snapshot, Delta}
+use Rattle.number.specs.Bytes.{AllBytes}
+use Rattle.body.specs.declared.tag.Form.the-variants.{Snapshot, Delta}
 use Rattle.field.specs.declared.verdict.Verdict.the-variants.{Bad, Senseless, NotAbove}
 use Rattle.field.specs.Verdict.{verdict}
-use Rattle.field.specs.Run.{AllBytes}
 use Rattle.payload.specs.Content.{Bytes}
 use Rattle.payload.specs.Payload.{items, changes}
 use Rattle.payload.specs.Limit.{limit}
-use Rattle.walk.specs.declared.fit.Fit.the-variants.{All}
+use Rattle.fit.specs.declared.Fit.the-variants.{All}
 use Rattle.item.specs.declared.sink.Counts.{Counts}
-use Rattle.walk.specs.Fit.{fitOf}
+use Rattle.fit.specs.Fit.{fitOf}
 use Rattle.delta.specs.Refusal.{Values}
 use Rattle.delta.specs.Answer.{differenceOf, appliedOf, countsOf}
 use Rattle.delta.specs.Demand.{Acceptable}

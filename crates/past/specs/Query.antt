@@ -10,7 +10,7 @@ use Rattle.change.specs.History.{lastN}
 use Rattle.serial.specs.declared.Serial.{Serial}
 use Rattle.serial.specs.declared.Session.{Session}
 use Rattle.serial.specs.Serial.{distanceOf, sessionOf}
-use Rattle.field.specs.declared.tag.Form.the-variants.{Delta}
+use Rattle.body.specs.declared.tag.Form.the-variants.{Delta}
 use Rattle.payload.specs.Content.{Bytes}
 use Rattle.payload.specs.Payload.{encode, changes}
 use Rattle.delta.specs.declared.refusal.Refusal.{Refusal}

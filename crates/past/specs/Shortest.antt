@@ -6,7 +6,7 @@ use mathlib.Core.Option.{some}
 use lib.ListN.{length}
 use Rattle.serial.specs.declared.Serial.{Serial}
 use Rattle.serial.specs.declared.Session.{Session}
-use Rattle.field.specs.Run.{AllBytes}
+use Rattle.number.specs.Bytes.{AllBytes}
 use Rattle.payload.specs.Content.{Bytes}
 use Rattle.item.specs.declared.sink.Counts.{Counts}
 use Rattle.delta.specs.Shortest.{LeadsTo, NoLonger, Balance}

@@ -5,7 +5,7 @@ use mathlib.Core.Bool.{cond, _&&_}
 use lib.Dec.{leb, eqb}
 use lib.ListN.{length, drop}
 use Rattle.serial.specs.Serial.{nextOf}
-use Rattle.field.specs.declared.tag.Form.the-variants.{Snapshot}
+use Rattle.body.specs.declared.tag.Form.the-variants.{Snapshot}
 use Rattle.payload.specs.Content.{Bytes}
 use Rattle.delta.specs.declared.refusal.Refusal.{Refusal}
 use Rattle.delta.specs.declared.refusal.Refusal.the-variants.{IllFormed, StoreFull}

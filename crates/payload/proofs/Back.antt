@@ -7,14 +7,14 @@ use native.Mathlib.Omega.{arith}
 use lib.ListN.{length, getD, take, drop, length-take, length-drop, take-append-drop}
 use lib.Seq.{drop-drop, drop-cons}
 use Rattle.change.specs.Change.{update}
-use Rattle.field.specs.declared.tag.Form.{Form}
-use Rattle.field.specs.declared.tag.Form.the-variants.{Snapshot, Delta}
-use Rattle.field.specs.Tag.{tagOf, kindOf, goodBody, sensible}
+use Rattle.number.specs.Bytes.{AllBytes}
+use Rattle.body.specs.declared.tag.Form.{Form}
+use Rattle.body.specs.declared.tag.Form.the-variants.{Snapshot, Delta}
+use Rattle.body.specs.Tag.{tagOf, kindOf, goodBody, sensible}
+use Rattle.body.specs.Aspa.{goodAspa, goodUpdate, formerSize, formerOf, newOf, sensibleProviders, sensibleAspa, sensibleUpdate}
+use Rattle.body.proofs.Sizes.{both, aspa-parts, UpdateParts, update-parts}
 use Rattle.field.specs.Key.{keyOf}
-use Rattle.field.specs.Aspa.{goodAspa, goodUpdate, formerSize, formerOf, newOf, sensibleProviders, sensibleAspa, sensibleUpdate}
 use Rattle.field.specs.Cells.{Cell}
-use Rattle.field.specs.Run.{AllBytes}
-use Rattle.field.proofs.Sizes.{both, aspa-parts, UpdateParts, update-parts}
 use Rattle.payload.specs.Content.{Bytes, countOf, entryOf, cellFor}
 use Rattle.payload.specs.Valid.{ValidValue, ValidChange, Valid, origin, routerKey, aspa, validAnnounce, validWithdraw, validUpdate}
 use Rattle.payload.proofs.Known as known

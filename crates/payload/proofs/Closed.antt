@@ -16,7 +16,7 @@ use Rattle.change.specs.Difference.{diffAt, diff}
 use Rattle.change.specs.Merge.{mergeAt, table, merge, mergeAll}
 use Rattle.change.specs.Application.{applyAt, apply}
 use Rattle.change.proofs.Whole.{diff-sorted, merge-sorted, apply-sorted}
-use Rattle.field.specs.declared.tag.Form.the-variants.{Snapshot, Delta}
+use Rattle.body.specs.declared.tag.Form.the-variants.{Snapshot, Delta}
 use Rattle.payload.specs.Content.{Bytes}
 use Rattle.payload.specs.Valid.{ValidValue, ValidChange, IsMap, origin, routerKey, aspa, validAnnounce, validWithdraw, validUpdate}
 

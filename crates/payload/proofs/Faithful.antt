@@ -9,16 +9,17 @@ use Rattle.order.specs.declared.Ordering.the-variants.{Less}
 use Rattle.order.specs.Comparison.{bytes}
 use Rattle.order.specs.Map.{Item, All, Below, Sorted}
 use Rattle.change.specs.Change.{Change}
-use Rattle.field.specs.declared.tag.Form.{Form}
-use Rattle.field.specs.declared.tag.Form.the-variants.{Snapshot, Delta}
+use Rattle.number.specs.Bytes.{AllBytes}
+use Rattle.body.specs.declared.tag.Form.{Form}
+use Rattle.body.specs.declared.tag.Form.the-variants.{Snapshot, Delta}
+use Rattle.body.specs.Tag.{kindOf}
 use Rattle.field.specs.declared.verdict.Verdict.the-variants.{Fine}
-use Rattle.field.specs.Tag.{kindOf}
 use Rattle.field.specs.Key.{keyOf}
 use Rattle.field.specs.Head.{front, whole}
 use Rattle.field.specs.Verdict.{verdict}
 use Rattle.field.specs.Cells.{Cell, cells, field}
 use Rattle.field.specs.Cells as run
-use Rattle.field.specs.Run.{AllBytes, Run, done, more}
+use Rattle.field.specs.Run.{Run, done, more}
 use Rattle.field.proofs.Run.{fine-run, cells-end, cells-more}
 use Rattle.field.proofs.Encode.{Ascent, none, next, ascent-fine, cells-encode, encode-cells, field-front, rest-bytes}
 use Rattle.payload.specs.Content.{Bytes, Content, entryOf, cellFor}

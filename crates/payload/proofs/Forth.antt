@@ -9,12 +9,12 @@ use lib.ListN.{length, length-append}
 use lib.Seq.{drop-drop, take-append-seam, drop-append-seam}
 use Rattle.order.specs.Map.{Item}
 use Rattle.change.specs.Change.{Change, announce, withdraw, update}
-use Rattle.field.specs.declared.tag.Form.{Form}
-use Rattle.field.specs.declared.tag.Form.the-variants.{Snapshot, Delta}
-use Rattle.field.specs.Tag.{tagOf, kindOf, goodBody, sensible}
+use Rattle.body.specs.declared.tag.Form.{Form}
+use Rattle.body.specs.declared.tag.Form.the-variants.{Snapshot, Delta}
+use Rattle.body.specs.Tag.{tagOf, kindOf, goodBody, sensible}
+use Rattle.body.specs.Aspa.{goodAspa, goodUpdate, goodProviders, formerSize, formerOf, newOf, sensibleProviders, sensibleAspa, sensibleUpdate}
+use Rattle.body.proofs.Sizes.{providers-size}
 use Rattle.field.specs.Key.{keyOf}
-use Rattle.field.specs.Aspa.{goodAspa, goodUpdate, goodProviders, formerSize, formerOf, newOf, sensibleProviders, sensibleAspa, sensibleUpdate}
-use Rattle.field.proofs.Sizes.{providers-size}
 use Rattle.payload.specs.Content.{Bytes, Content, countOf, entryOf, cellFor}
 use Rattle.payload.specs.Valid.{ValidValue, ValidChange, Valid, origin, routerKey, aspa, validAnnounce, validWithdraw, validUpdate}
 

@@ -6,10 +6,10 @@ use mathlib.Core.Bool.{Bool, true, false, cond}
 use native.Mathlib.Omega.{arith}
 use lib.Dec.{eqb}
 use borrow.Author.Tests.{eqb-true}
-use Rattle.field.specs.declared.tag.Form.{Form}
-use Rattle.field.specs.declared.tag.Form.the-variants.{Snapshot, Delta}
-use Rattle.field.specs.declared.tag.Tag.{Tag}
-use Rattle.field.specs.Tag.{tagOf, goodTagged, goodBody}
+use Rattle.body.specs.declared.tag.Form.{Form}
+use Rattle.body.specs.declared.tag.Form.the-variants.{Snapshot, Delta}
+use Rattle.body.specs.declared.tag.Tag.{Tag}
+use Rattle.body.specs.Tag.{tagOf, goodTagged, goodBody}
 
 pub data Known : Form → ℕ → Type 0 where
   origin : Known Snapshot 0x01

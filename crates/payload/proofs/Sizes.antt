@@ -14,8 +14,8 @@ use Rattle.order.proofs.Walk.{walk-nil, walk-left, walk-right, walk-less, walk-
 use Rattle.change.specs.Change.{announce, withdraw, update, unlessEqual}
 use Rattle.change.specs.Difference as change
 use Rattle.change.specs.Difference.{diffAt, diff}
-use Rattle.field.specs.declared.tag.Form.{Form}
-use Rattle.field.specs.declared.tag.Form.the-variants.{Snapshot, Delta}
+use Rattle.body.specs.declared.tag.Form.{Form}
+use Rattle.body.specs.declared.tag.Form.the-variants.{Snapshot, Delta}
 use Rattle.field.specs.Cells as run
 use Rattle.payload.specs.Content.{Bytes, Content, valuesFor, bodyFor}
 use Rattle.payload.specs.Payload.{encode}

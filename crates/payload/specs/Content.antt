@@ -6,15 +6,15 @@ use lib.ListN.{length, getD, drop}
 use lib.Dec.{eqb}
 use Rattle.order.specs.Map.{Item}
 use Rattle.change.specs.Change.{Change, announce, withdraw, update}
-use Rattle.field.specs.declared.tag.Form.{Form}
-use Rattle.field.specs.declared.tag.Form.the-variants.{Snapshot, Delta}
-use Rattle.field.specs.declared.tag.Action.{Action}
-use Rattle.field.specs.declared.tag.Action.the-variants.{Hold, Announce, Withdraw, Update}
-use Rattle.field.specs.declared.tag.Tag.{Tag}
-use Rattle.field.specs.declared.tag.Tag.the-variants.{Unknown, Origin, RouterKey, Aspa}
-use Rattle.field.specs.Tag.{tagOf, kindOf}
+use Rattle.body.specs.declared.tag.Form.{Form}
+use Rattle.body.specs.declared.tag.Form.the-variants.{Snapshot, Delta}
+use Rattle.body.specs.declared.tag.Action.{Action}
+use Rattle.body.specs.declared.tag.Action.the-variants.{Hold, Announce, Withdraw, Update}
+use Rattle.body.specs.declared.tag.Tag.{Tag}
+use Rattle.body.specs.declared.tag.Tag.the-variants.{Unknown, Origin, RouterKey, Aspa}
+use Rattle.body.specs.Tag.{tagOf, kindOf}
+use Rattle.body.specs.Aspa.{formerOf, newOf}
 use Rattle.field.specs.Key.{keyOf}
-use Rattle.field.specs.Aspa.{formerOf, newOf}
 use Rattle.field.specs.Cells.{Cell}
 
 abbrev pub Bytes : Type 0

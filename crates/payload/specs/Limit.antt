@@ -1,7 +1,7 @@
 -- The length limits of an input, in bytes.
 use Prim.Native.Nat.{ℕ}
-use Rattle.field.specs.declared.tag.Form.{Form}
-use Rattle.field.specs.declared.tag.Form.the-variants.{Snapshot, Delta}
+use Rattle.body.specs.declared.tag.Form.{Form}
+use Rattle.body.specs.declared.tag.Form.the-variants.{Snapshot, Delta}
 
 abbrev pub limit : Form → ℕ
 limit Snapshot = 16_777_216

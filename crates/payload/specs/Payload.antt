@@ -2,8 +2,8 @@
 use mathlib.Core.List.{List, map}
 use Rattle.order.specs.Map.{Item}
 use Rattle.change.specs.Difference as change
-use Rattle.field.specs.declared.tag.Form.{Form}
-use Rattle.field.specs.declared.tag.Form.the-variants.{Snapshot, Delta}
+use Rattle.body.specs.declared.tag.Form.{Form}
+use Rattle.body.specs.declared.tag.Form.the-variants.{Snapshot, Delta}
 use Rattle.field.specs.Cells as run
 use Rattle.payload.specs.Content.{Bytes, Content, entryOf, cellFor}
 

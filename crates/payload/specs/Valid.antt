@@ -6,11 +6,11 @@ use lib.ListN.{length}
 use Rattle.order.specs.Comparison.{bytes}
 use Rattle.order.specs.Map.{Item, All, Sorted}
 use Rattle.change.specs.Change.{Change, announce, withdraw, update}
-use Rattle.field.specs.declared.tag.Form.{Form}
-use Rattle.field.specs.declared.tag.Form.the-variants.{Snapshot, Delta}
-use Rattle.field.specs.Origin.{goodOrigin}
-use Rattle.field.specs.RouterKey.{goodRouterKey}
-use Rattle.field.specs.Aspa.{goodProviders, sensibleProviders}
+use Rattle.body.specs.declared.tag.Form.{Form}
+use Rattle.body.specs.declared.tag.Form.the-variants.{Snapshot, Delta}
+use Rattle.body.specs.Origin.{goodOrigin}
+use Rattle.body.specs.RouterKey.{goodRouterKey}
+use Rattle.body.specs.Aspa.{goodProviders, sensibleProviders}
 use Rattle.payload.specs.Content.{Bytes, Content}
 
 -- a key and a value that it can have

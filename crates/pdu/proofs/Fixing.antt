@@ -8,7 +8,7 @@ use lib.Seq.{sets, length-sets}
 use Rattle.serial.specs.declared.Serial.{Serial}
 use Rattle.serial.specs.declared.Session.{Session}
 use Rattle.serial.specs.declared.timing.Timing.{Timing}
-use Rattle.field.specs.Number.{twoBytes, fourBytes}
+use Rattle.number.specs.Number.{twoBytes, fourBytes}
 use Rattle.payload.specs.Content.{Bytes}
 use Rattle.message.specs.declared.version.Version.{Version}
 use Rattle.message.specs.declared.version.Version.the-variants.{Rfc6810, Rfc8210}

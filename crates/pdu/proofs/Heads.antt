@@ -8,7 +8,7 @@ use mir.Val.{Fits}
 use lib.ListN.{length}
 use lib.Seq.{sets}
 use Rattle.serial.specs.declared.Session.{Session}
-use Rattle.field.specs.Number.{twoBytes, fourBytes}
+use Rattle.number.specs.Number.{twoBytes, fourBytes}
 use Rattle.payload.specs.Content.{Bytes}
 use Rattle.item.proofs.Sinking.{sets-append}
 use Rattle.message.specs.declared.version.Version.{Version}

@@ -10,11 +10,12 @@ use mir.Val.{Fits}
 use lib.Dec.{eqb}
 use lib.ListN.{length, getD, take, drop, length-take, length-drop, length-append, take-append-drop}
 use lib.Seq.{sets, length-sets, getD-take, getD-drop, take-take, drop-drop, take-add, take-append-le, length-take-le, take-at, drop-at}
+use Rattle.number.specs.Number.{twoBytes, fourBytes, wordAt, wordBytes}
+use Rattle.number.specs.Bytes.{part}
+use Rattle.number.proofs.Numbers.{bytes-of-word}
+use Rattle.body.specs.Origin.{family, address, prefixLength, maximumLength}
 use Rattle.field.specs.declared.key.Key.{Key}
-use Rattle.field.specs.Number.{twoBytes, fourBytes, wordAt, wordBytes}
-use Rattle.field.specs.Origin.{family, address, prefixLength, maximumLength}
-use Rattle.field.specs.Places.{part, keyIn}
-use Rattle.field.proofs.Numbers.{bytes-of-word}
+use Rattle.field.specs.Places.{keyIn}
 use Rattle.payload.specs.Content.{Bytes}
 use Rattle.item.specs.declared.place.Part.{Part}
 use Rattle.item.specs.Place.{partIn, Lies}

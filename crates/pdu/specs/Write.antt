@@ -7,9 +7,9 @@ use lib.Dec.{eqb}
 use lib.ListN.{length, getD, take, drop}
 use lib.Seq.{sets}
 use Rattle.serial.specs.declared.Session.{Session}
+use Rattle.number.specs.Number.{twoBytes}
+use Rattle.body.specs.Origin.{family, address, prefixLength, maximumLength}
 use Rattle.field.specs.declared.key.Key.{Key}
-use Rattle.field.specs.Number.{twoBytes}
-use Rattle.field.specs.Origin.{family, address, prefixLength, maximumLength}
 use Rattle.payload.specs.Content.{Bytes}
 use Rattle.item.specs.declared.place.Part.{Part}
 use Rattle.item.specs.declared.place.Act.{Act}

@@ -11,7 +11,7 @@ ghost use mathlib.Core.List.{[], _++_};
 ghost use Prim.Native.Nat.{_+_, _≤_, _<_, _^_};
 ghost use lib.ListN.{length};
 ghost use lib.Seq.{sets};
-ghost use Rattle.field.specs.Number.{fourBytes};
+ghost use Rattle.number.specs.Number.{fourBytes};
 ghost use Rattle.message.specs.Version.{timesBytes, endLength};
 ghost use Rattle.message.specs.Message.{pdu, serialNotify, serialQuery, cacheResponse, endOfData, cacheReset, errorReport};
 ghost use Rattle.pdu.specs.Write.{sessionHead};

@@ -1,8 +1,8 @@
 // The header that each message starts with.
-use field::number::wide;
 use item::copy::store_four;
 use message::version::Version;
 use message::version::number_of;
+use number::wide;
 ghost use mathlib.Core.Path.{_≡_};
 ghost use mathlib.Core.List.{_∷_, []};
 ghost use Prim.Native.Nat.{_+_, _≤_, _<_};

@@ -5,12 +5,13 @@ use mathlib.Core.List.{List, [], _∷_, map}
 use native.Mathlib.Omega.{arith}
 use denote.Ref.{RefT, now}
 use lib.ListN.{length, drop, replicate, length-map, length-drop}
+use Rattle.number.specs.Bytes.{part}
+use Rattle.body.specs.declared.tag.Form.the-variants.{Delta}
 use Rattle.field.specs.declared.head.Field.{Field}
 use Rattle.field.specs.declared.head.Field.the-variants.{End, Cut, Whole}
-use Rattle.field.specs.declared.tag.Form.the-variants.{Delta}
 use Rattle.field.specs.declared.verdict.Verdict.the-variants.{Fine}
 use Rattle.field.specs.Verdict.{verdict}
-use Rattle.field.specs.Places.{part, fieldAt}
+use Rattle.field.specs.Places.{fieldAt}
 use Rattle.field.specs.Cells.{Cell, cells}
 use Rattle.field.specs.Run.{GoodAt}
 use Rattle.field.proofs.Fields.{field-end, end-at, cut-at, body-within}

@@ -5,8 +5,8 @@ use mathlib.Core.List.{map}
 use denote.Ref.{RefT, now}
 use lib.ListN.{length, replicate}
 use Rattle.change.specs.Difference as change
+use Rattle.body.specs.declared.tag.Form.the-variants.{Delta}
 use Rattle.field.specs.declared.head.Field.the-variants.{End}
-use Rattle.field.specs.declared.tag.Form.the-variants.{Delta}
 use Rattle.payload.specs.Content.{Bytes, entryOf}
 use Rattle.payload.specs.Payload.{changes}
 use Rattle.payload.specs.Valid.{IsMap}

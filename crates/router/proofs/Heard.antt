@@ -12,12 +12,12 @@ use Rattle.order.specs.Map.{Item, All}
 use Rattle.change.specs.Change.{Change, announce, withdraw, update}
 use Rattle.change.specs.Difference.{Delta}
 use Rattle.serial.specs.declared.timing.Timing.{Timing}
-use Rattle.field.specs.Number.{twoBytes, fourBytes}
-use Rattle.field.specs.Tag.{tagOf, goodBody}
-use Rattle.field.specs.Origin.{family, address, prefixLength, maximumLength, cleanByte, clean, goodPrefix, goodOrigin}
-use Rattle.field.specs.RouterKey.{goodRouterKey}
-use Rattle.field.specs.Run.{AllBytes}
-use Rattle.field.proofs.Sizes.{both}
+use Rattle.number.specs.Number.{twoBytes, fourBytes}
+use Rattle.number.specs.Bytes.{AllBytes}
+use Rattle.body.specs.Tag.{tagOf, goodBody}
+use Rattle.body.specs.Origin.{family, address, prefixLength, maximumLength, cleanByte, clean, goodPrefix, goodOrigin}
+use Rattle.body.specs.RouterKey.{goodRouterKey}
+use Rattle.body.proofs.Sizes.{both}
 use Rattle.payload.specs.Content.{Bytes}
 use Rattle.payload.specs.Valid.{ValidValue, ValidChange, origin, routerKey, aspa, validAnnounce, validWithdraw, validUpdate}
 use Rattle.item.proofs.Fronts.{drop-bytes, take-bytes}

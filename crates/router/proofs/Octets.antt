@@ -15,15 +15,16 @@ use Rattle.order.specs.Walk.{emit, walk}
 use Rattle.order.proofs.Walk.{walk-nil, walk-right, walk-left, walk-less, walk-equal, walk-greater}
 use Rattle.change.specs.Change.{Change}
 use Rattle.change.specs.Difference.{Snapshot, diffAt, diff}
-use Rattle.field.specs.declared.tag.Form.{Form}
-use Rattle.field.specs.declared.tag.Form.the-variants as form
-use Rattle.field.specs.declared.tag.Tag.{Tag}
-use Rattle.field.specs.declared.tag.Tag.the-variants.{Unknown, Origin, RouterKey, Aspa}
+use Rattle.number.specs.Bytes.{AllBytes}
+use Rattle.body.specs.declared.tag.Form.{Form}
+use Rattle.body.specs.declared.tag.Form.the-variants as form
+use Rattle.body.specs.declared.tag.Tag.{Tag}
+use Rattle.body.specs.declared.tag.Tag.the-variants.{Unknown, Origin, RouterKey, Aspa}
+use Rattle.body.specs.Tag.{tagOf, kindNumber, kindOf}
 use Rattle.field.specs.declared.verdict.Verdict.the-variants.{Fine}
 use Rattle.field.specs.Verdict.{verdict}
-use Rattle.field.specs.Tag.{tagOf, kindNumber, kindOf}
 use Rattle.field.specs.Key.{keyOf}
-use Rattle.field.specs.Run.{AllBytes, Run, done, more}
+use Rattle.field.specs.Run.{Run, done, more}
 use Rattle.field.proofs.Encode.{field-front, rest-bytes}
 use Rattle.field.proofs.Walk.{good-start}
 use Rattle.payload.specs.Content.{Bytes, Content}

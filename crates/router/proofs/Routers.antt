@@ -11,8 +11,8 @@ use Rattle.order.proofs.Map.{ext}
 use Rattle.change.specs.Difference.{Snapshot, Delta}
 use Rattle.change.specs.Application.{applyAt, apply, fitsAt, Applies}
 use Rattle.change.proofs.Whole.{apply-sorted, apply-lookup}
-use Rattle.field.specs.declared.tag.Form.the-variants as form
-use Rattle.field.specs.Run.{AllBytes}
+use Rattle.number.specs.Bytes.{AllBytes}
+use Rattle.body.specs.declared.tag.Form.the-variants as form
 use Rattle.payload.specs.Content.{Bytes}
 use Rattle.payload.specs.Valid.{Valid}
 use Rattle.message.specs.declared.version.Version.{Version}

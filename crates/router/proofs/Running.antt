@@ -24,7 +24,7 @@ use Rattle.serial.specs.declared.timing.Timing.{Timing}
 use Rattle.serial.specs.Serial.{distanceOf, sessionOf}
 use Rattle.serial.specs.Timing.{timingOf}
 use Rattle.serial.proofs.Bounds.{intervals}
-use Rattle.field.specs.declared.tag.Form.the-variants.{Snapshot, Delta}
+use Rattle.body.specs.declared.tag.Form.the-variants.{Snapshot, Delta}
 use Rattle.field.specs.Cells as run
 use Rattle.payload.specs.Content.{Bytes}
 use Rattle.payload.specs.Written.{writtenOver}

@@ -11,8 +11,8 @@ use lib.Dec.{leb, eqb}
 use lib.ListN.{length, getD, take, drop, length-append}
 use lib.Seq.{take-at, drop-at, drop-drop, getD-drop}
 use Rattle.serial.specs.declared.timing.Timing.{Timing}
-use Rattle.field.specs.Number.{two, four, twoAt, fourAt, twoBytes, fourBytes}
-use Rattle.field.specs.Places.{part}
+use Rattle.number.specs.Number.{two, four, twoAt, fourAt, twoBytes, fourBytes}
+use Rattle.number.specs.Bytes.{part}
 use Rattle.payload.specs.Content.{Bytes}
 use Rattle.message.specs.declared.version.Version.{Version}
 use Rattle.message.specs.declared.version.Version.the-variants.{Rfc6810, Rfc8210}

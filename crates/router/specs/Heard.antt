@@ -6,8 +6,8 @@ use mathlib.Core.Bool.{true}
 use lib.ListN.{length}
 use Rattle.order.specs.Map.{Item}
 use Rattle.change.specs.Change.{Change}
-use Rattle.field.specs.declared.tag.Form.the-variants.{Delta}
-use Rattle.field.specs.Run.{AllBytes}
+use Rattle.number.specs.Bytes.{AllBytes}
+use Rattle.body.specs.declared.tag.Form.the-variants.{Delta}
 use Rattle.payload.specs.Content.{Bytes}
 use Rattle.payload.specs.Valid.{Valid}
 use Rattle.message.specs.declared.version.Version.{Version}

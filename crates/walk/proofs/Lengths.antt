@@ -8,7 +8,7 @@ use native.Mathlib.Omega.{arith}
 use mir.Syntax.{w8}
 use mir.Val.{Fits}
 use lib.ListN.{length, getD, drop, length-append, List·getD-eq-default, List·getD-append}
-use lib.Seq.{sets, getD-append-add}
+use lib.Seq.{sets}
 use Rattle.order.specs.declared.Ordering.{Ordering}
 use Rattle.order.specs.declared.Ordering.the-variants.{Less, Equal, Greater}
 use Rattle.order.specs.Comparison.{bytes}
@@ -16,12 +16,13 @@ use Rattle.order.specs.Map.{Item}
 use Rattle.order.specs.Walk.{emit}
 use Rattle.order.proofs.Comparison.{strings}
 use Rattle.order.proofs.Walk.{walk-nil, walk-left, walk-right, walk-less, walk-equal, walk-greater}
-use Rattle.change.specs.Change.{Change, announce, withdraw, update, unlessEqual, replace}
+use Rattle.change.specs.Change.{Change, announce, withdraw, update, unlessEqual}
 use Rattle.change.specs.Difference as change
 use Rattle.change.specs.Merge.{table, mergeAt, merge}
-use Rattle.field.specs.declared.tag.Form.{Form}
+use Rattle.number.specs.Bytes.{AllBytes}
+use Rattle.body.specs.declared.tag.Form.{Form}
 use Rattle.field.specs.Cells.{Cell, cells, field, cellBytes}
-use Rattle.field.specs.Run.{AllBytes, Run, GoodAt, done, more}
+use Rattle.field.specs.Run.{Run, GoodAt, done, more}
 use Rattle.field.proofs.Fronts.{shorter}
 use Rattle.field.proofs.Encode.{field-front, rest-bytes}
 use Rattle.field.proofs.Run.{cells-end, cells-more}
@@ -32,7 +33,7 @@ use Rattle.item.specs.declared.reading.Reading.the-variants.{Withdrawn, Announc
 use Rattle.item.specs.declared.sink.Counts.{Counts}
 use Rattle.walk.specs.declared.walk.Output.the-variants.{Written}
 use Rattle.item.specs.Reading.{formOf, itemAs, readAs}
-use Rattle.item.specs.Write.{cellAs, fieldAs, writes, plusAll, zero}
+use Rattle.item.specs.Write.{cellAs, writes, plusAll, zero}
 use Rattle.walk.specs.Walk.{Runs, mergedAs, outputOf, wholeOut}
 use Rattle.item.proofs.Readings.{says-nil, says-cons}
 use Rattle.walk.proofs.Walking.{whole-fits, whole-bytes}

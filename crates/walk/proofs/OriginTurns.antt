@@ -1,42 +1,40 @@
 -- Laws of the merge of two deltas while both have origins.
-use Prim.Native.Nat.{ℕ, suc, _+_, _-_, _*_, _^_, _<_, _≤_}
+use Prim.Native.Nat.{ℕ, suc, _+_, _-_, _<_, _≤_}
 use mathlib.Core.Path.{_≡_, refl, sym, ap, ap₂, subst, _∙_}
-use mathlib.Core.List.{List, [], _∷_, _++_, append-nil}
+use mathlib.Core.List.{[], _∷_, _++_, append-nil}
 use mathlib.Core.Bool.{Bool, true, false, not, cond, false≢true}
 use native.Mathlib.Omega.{arith}
 use borrow.Author.Tests.{eq-eqb, ne-eqb, eqb-true, not-false}
 use mir.Syntax.{w8}
 use mir.Val.{Fits}
 use lib.Dec.{eqb}
-use lib.ListN.{length, getD, take, drop, length-take, length-drop, length-append}
-use lib.Seq.{sets, take-at, drop-cons, drop-drop, length-sets}
+use lib.ListN.{length, getD, take, drop, length-take, length-drop}
+use lib.Seq.{sets, take-at, drop-cons, length-sets}
 use Rattle.order.specs.declared.Ordering.{Ordering}
 use Rattle.order.specs.declared.Ordering.the-variants.{Less, Equal, Greater}
-use Rattle.order.specs.Comparison.{bytes, number, orElse}
+use Rattle.order.specs.Comparison.{bytes, number}
 use Rattle.order.specs.Map.{Item}
 use Rattle.order.specs.Walk.{emit}
-use Rattle.order.proofs.Comparison.{strings, number-equal}
+use Rattle.order.proofs.Comparison.{number-equal}
 use Rattle.order.proofs.Walk.{walk-less, walk-equal, walk-greater}
 use Rattle.change.specs.Change.{Change, announce, withdraw}
 use Rattle.change.specs.Difference as change
 use Rattle.change.specs.Merge.{table, mergeAt, merge}
-use Rattle.field.specs.declared.tag.Form.the-variants.{Delta}
-use Rattle.field.specs.Number.{twoAt}
-use Rattle.field.specs.Origin.{goodOrigin}
-use Rattle.field.specs.Tag.{tagOf, kindOf, goodBody}
+use Rattle.number.specs.Bytes.{part, AllBytes}
+use Rattle.body.specs.declared.tag.Form.the-variants.{Delta}
+use Rattle.body.specs.Origin.{goodOrigin}
+use Rattle.body.specs.Tag.{tagOf, kindOf, goodBody}
+use Rattle.body.proofs.Sizes.{origin-size}
 use Rattle.field.specs.Key.{keyOf}
 use Rattle.field.specs.Cells.{Cell, field, cellBytes}
-use Rattle.field.specs.Places.{part}
-use Rattle.field.specs.Progress.{If}
-use Rattle.field.specs.Run.{AllBytes, GoodAt}
+use Rattle.field.specs.If.{If}
+use Rattle.field.specs.Run.{GoodAt}
 use Rattle.field.proofs.Common.{Found}
 use Rattle.field.proofs.Encode.{field-front}
-use Rattle.field.proofs.Sizes.{origin-size}
-use Rattle.payload.specs.Content.{Bytes, entryOf, cellFor}
-use Rattle.payload.specs.Payload.{entries, changes}
+use Rattle.payload.specs.Content.{Bytes, entryOf}
+use Rattle.payload.specs.Payload.{changes}
 use Rattle.payload.specs.Count.{announces, withdraws, sumOf}
 use Rattle.payload.proofs.Back.{says-back}
-use Rattle.item.specs.declared.place.Part.{Part}
 use Rattle.item.specs.declared.sink.Counts.{Counts}
 use Rattle.item.specs.declared.reading.Reading.the-variants.{Changes}
 use Rattle.item.specs.Place.{partIn, Lies}
@@ -44,10 +42,10 @@ use Rattle.item.specs.Reading.{Ready}
 use Rattle.item.specs.Write.{cellAs, writes, plusAll}
 use Rattle.item.proofs.Fronts.{drop-bytes, take-bytes}
 use Rattle.item.proofs.Putting.{counts-path}
-use Rattle.walk.specs.declared.pass.Stand.{Stand}
 use Rattle.walk.specs.declared.origins.OriginStep.{OriginStep}
 use Rattle.walk.specs.declared.origins.OriginStep.the-variants.{Other, On}
-use Rattle.walk.specs.Walk.{leftOf, Stands, Wrote}
+use Rattle.turn.specs.Left.{leftOf}
+use Rattle.walk.specs.Walk.{Stands, Wrote}
 use Rattle.walk.specs.Origins.{originOf, OriginAt, OriginCountable, bothOrigins, BothAt, Turns, OriginStepMeans, OriginStepIs}
 use Rattle.item.proofs.Heres.{here, cell, next, reads, said, behind, within, lies}
 use Rattle.walk.proofs.Walking.{plus-nil, writes-nil, then}

@@ -1,6 +1,6 @@
 -- Laws of what the walk passes without a turn.
-use Prim.Native.Nat.{ℕ, _+_, _-_, _*_, _^_, _<_, _≤_}
-use mathlib.Core.Path.{_≡_, refl, sym, ap, ap₂, subst, _∙_}
+use Prim.Native.Nat.{ℕ, _+_, _-_, _^_, _<_, _≤_}
+use mathlib.Core.Path.{_≡_, refl, sym, ap, ap₂, _∙_}
 use mathlib.Core.List.{List, [], _∷_, _++_, map}
 use mathlib.Core.Bool.{true}
 use native.Mathlib.Omega.{arith}
@@ -14,35 +14,35 @@ use Rattle.change.specs.Change.{Change}
 use Rattle.change.specs.Difference as change
 use Rattle.change.specs.Merge.{mergeAt, merge}
 use Rattle.change.proofs.Whole.{asNew, diff-new}
-use Rattle.field.specs.declared.tag.Form.{Form}
-use Rattle.field.specs.declared.tag.Form.the-variants.{Snapshot, Delta}
-use Rattle.field.specs.Tag.{goodBody, kindOf}
+use Rattle.number.specs.Bytes.{AllBytes}
+use Rattle.body.specs.declared.tag.Form.{Form}
+use Rattle.body.specs.declared.tag.Form.the-variants.{Snapshot, Delta}
+use Rattle.body.specs.Tag.{goodBody}
+use Rattle.body.proofs.Digits.{snapshot-kind}
 use Rattle.field.specs.Key.{keyOf}
 use Rattle.field.specs.Cells.{Cell, cells, field, cellBytes}
-use Rattle.field.specs.Run.{AllBytes, Run, GoodAt, done, more}
-use Rattle.field.proofs.Digits.{snapshot-kind}
+use Rattle.field.specs.Run.{Run, GoodAt, done, more}
 use Rattle.field.proofs.Encode.{field-front, rest-bytes}
 use Rattle.field.proofs.Run.{cells-end, cells-more}
-use Rattle.payload.specs.Content.{Bytes, cellFor, entryOf}
+use Rattle.payload.specs.Content.{Bytes}
 use Rattle.payload.specs.Payload.{items, changes}
 use Rattle.payload.specs.Count.{announces, withdraws, sumOf}
 use Rattle.payload.proofs.Back.{says-back}
-use Rattle.item.specs.declared.place.Part.{Part}
 use Rattle.item.specs.declared.sink.Counts.{Counts}
 use Rattle.item.specs.declared.reading.Reading.{Reading}
-use Rattle.item.specs.declared.reading.Reading.the-variants.{Withdrawn, Announced, Changes}
+use Rattle.item.specs.declared.reading.Reading.the-variants.{Announced, Changes}
 use Rattle.item.specs.Front.{frontKey}
 use Rattle.item.specs.Place.{partIn, Lies}
 use Rattle.item.specs.Reading.{itemAs, readAs, Ready}
-use Rattle.item.specs.Write.{cellAs, fieldAs, writes, plusAll}
+use Rattle.item.specs.Write.{cellAs, writes}
 use Rattle.item.proofs.Fronts.{front-less, drop-bytes}
 use Rattle.item.proofs.Putting.{counts-path}
 use Rattle.item.proofs.Readings.{says-nil, says-cons}
-use Rattle.walk.specs.declared.seek.Sought.{Sought}
 use Rattle.walk.specs.declared.pass.Stand.{Stand}
-use Rattle.walk.specs.Seek.{Bounds, Seeks}
-use Rattle.walk.specs.Skip.{Skips}
-use Rattle.walk.specs.Walk.{leftOf, Stands, Wrote}
+use Rattle.turn.specs.Seek.{Bounds, Seeks}
+use Rattle.turn.specs.Skip.{Skips}
+use Rattle.turn.specs.Left.{leftOf}
+use Rattle.walk.specs.Walk.{Stands, Wrote}
 use Rattle.walk.proofs.Lengths.{body-bytes}
 use Rattle.walk.proofs.Walking.{plus-nil, writes-nil, writes-append, walk-left-first}
 

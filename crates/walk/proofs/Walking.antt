@@ -18,7 +18,7 @@ use Rattle.change.specs.Change.{Change, announce, withdraw, update}
 use Rattle.change.specs.Difference as change
 use Rattle.change.specs.Merge.{table, mergeAt, merge}
 use Rattle.change.proofs.Whole.{merge-later, merge-earlier}
-use Rattle.field.specs.declared.tag.Form.{Form}
+use Rattle.body.specs.declared.tag.Form.{Form}
 use Rattle.field.specs.declared.key.Key.{Key}
 use Rattle.field.specs.Cells.{cellBytes}
 use Rattle.field.specs.Places.{keyIn}
@@ -32,19 +32,20 @@ use Rattle.item.specs.declared.sink.Counts.{Counts}
 use Rattle.item.specs.declared.reading.Reading.{Reading}
 use Rattle.item.specs.declared.reading.Read.{Read}
 use Rattle.item.specs.declared.reading.Read.the-variants.{End, One}
-use Rattle.walk.specs.declared.turn.Side.{Side}
-use Rattle.walk.specs.declared.turn.Side.the-variants as side
-use Rattle.walk.specs.declared.turn.Turn.{Turn}
-use Rattle.walk.specs.declared.turn.Turn.the-variants.{Over, Left, Right, Both}
+use Rattle.turn.specs.declared.turn.Side.{Side}
+use Rattle.turn.specs.declared.turn.Side.the-variants as side
+use Rattle.turn.specs.declared.turn.Turn.{Turn}
+use Rattle.turn.specs.declared.turn.Turn.the-variants.{Over, Left, Right, Both}
 use Rattle.item.specs.Place.{changeIn, itemIn, ActFits, KeyIn, Holds}
 use Rattle.item.specs.Reading.{readAs, Ready, EntryFits, Reads}
 use Rattle.walk.specs.declared.walk.Step.{Step}
 use Rattle.walk.specs.declared.walk.Step.the-variants as step
 use Rattle.walk.specs.declared.walk.Output.the-variants.{NoRoom, Written}
-use Rattle.walk.specs.Turn.{TurnIs, TurnMeans}
+use Rattle.turn.specs.Turn.{TurnIs, TurnMeans}
 use Rattle.item.specs.Write.{fieldAs, writes, plusItem, plusAll, zero, Countable}
 use Rattle.walk.specs.declared.pass.Stand.{Stand}
-use Rattle.walk.specs.Walk.{EntryIn, bothOf, Passed, leftOf, Wrote, Stands, StepMeans, StepIs, Sized, Runs, outputOf, wholeOut}
+use Rattle.walk.specs.Walk.{EntryIn, bothOf, Passed, Wrote, Stands, StepMeans, StepIs, Sized, Runs, outputOf, wholeOut}
+use Rattle.turn.specs.Left.{leftOf}
 use Rattle.item.proofs.Sinking.{sets-append}
 use Rattle.item.proofs.Tabling.{table-held}
 use Rattle.item.proofs.Putting.{counts-path, field-small}

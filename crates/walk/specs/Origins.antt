@@ -8,8 +8,8 @@ use lib.ListN.{length, getD, take, drop}
 use Rattle.order.specs.Map.{Item}
 use Rattle.change.specs.Change.{Change, announce, withdraw}
 use Rattle.change.specs.Difference as change
-use Rattle.field.specs.declared.tag.Form.the-variants.{Delta}
-use Rattle.field.specs.Places.{part}
+use Rattle.number.specs.Bytes.{part}
+use Rattle.body.specs.declared.tag.Form.the-variants.{Delta}
 use Rattle.payload.specs.Content.{Bytes}
 use Rattle.payload.specs.Payload.{changes}
 use Rattle.item.specs.declared.sink.Counts.{Counts}

@@ -10,8 +10,8 @@ use Rattle.order.specs.Comparison.{bytes}
 use Rattle.order.specs.Walk.{emit}
 use Rattle.change.specs.Difference.{Delta}
 use Rattle.change.specs.Merge.{table, merge}
-use Rattle.field.specs.declared.tag.Form.{Form}
-use Rattle.field.specs.declared.tag.Form.the-variants as form
+use Rattle.body.specs.declared.tag.Form.{Form}
+use Rattle.body.specs.declared.tag.Form.the-variants as form
 use Rattle.field.specs.Places.{keyIn}
 use Rattle.payload.specs.Content.{Bytes}
 use Rattle.payload.specs.Limit.{limit}
@@ -20,7 +20,8 @@ use Rattle.item.specs.declared.place.Entry.{Entry}
 use Rattle.payload.specs.Count.{announces, withdraws, sumOf}
 use Rattle.item.specs.declared.sink.Counts.{Counts}
 use Rattle.item.specs.declared.reading.Reading.{Reading}
-use Rattle.walk.specs.declared.turn.Side.the-variants as side
+use Rattle.turn.specs.Left.{leftOf}
+use Rattle.turn.specs.declared.turn.Side.the-variants as side
 use Rattle.walk.specs.declared.walk.Step.{Step}
 use Rattle.walk.specs.declared.walk.Step.the-variants.{Over, On}
 use Rattle.walk.specs.declared.walk.Output.{Output}
@@ -44,10 +45,6 @@ pub record Passed (c : Counts) (at size : ℕ) : Type 0 where
   pub len : c .len ≤ 40_000 * (limit form.Delta + at)
   pub announced : c .announced ≤ limit form.Delta + at
   pub withdrawn : c .withdrawn ≤ limit form.Delta + at
-
--- what is left to be merged of a from i on and of b from j on
-abbrev pub leftOf : Reading → Bytes → ℕ → Reading → Bytes → ℕ → Delta Bytes Bytes
-leftOf ra a i rb b j = merge bytes bytes (readAs ra (drop i a)) (readAs rb (drop j b))
 
 -- what was left at i and j is what was written and what is left at p and q; no more was written than was passed: at most
 -- 40,000 bytes and one item for each byte

@@ -1,16 +1,16 @@
 // The merge of two deltas while both have origins: an origin has no value, so its field is kept as it lies or dropped.
 use crate::pass::Stand;
-use field::compare::compare;
 use item::copy::copy;
 use item::place::Part;
 use item::sink::Counts;
+use number::compare::compare;
 use order::Ordering;
 ghost use mathlib.Core.Path.{_≡_};
 ghost use mathlib.Core.List.{_∷_, []};
 ghost use lib.Seq.{sets};
 ghost use Rattle.order.specs.Comparison.{bytes};
-ghost use Rattle.field.specs.declared.tag.Form.the-variants.{Delta};
-ghost use Rattle.field.specs.Progress.{If};
+ghost use Rattle.body.specs.declared.tag.Form.the-variants.{Delta};
+ghost use Rattle.field.specs.If.{If};
 ghost use Rattle.item.specs.declared.reading.Reading.the-variants.{Changes};
 ghost use Rattle.item.specs.Reading.{Ready};
 ghost use Rattle.item.specs.Write.{plusAll, writes};

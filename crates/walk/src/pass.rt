@@ -1,15 +1,15 @@
 // What the walk passes without a turn of its own: the run that two snapshots have in common, which is no part of their
 // difference; the run of a snapshot below a delta's next item, which is copied as it lies; the origins of two deltas.
 use crate::origins::put_origins;
-use crate::seek::bound_at;
-use crate::seek::seek;
-use crate::skip::skip;
-use field::tag::Form;
+use body::tag::Form;
 use item::copy::copy;
 use item::place::Part;
 use item::reading::Reading;
 use item::sink::Counts;
-ghost use Rattle.field.specs.declared.tag.Form.the-variants.{Snapshot};
+use turn::seek::bound_at;
+use turn::seek::seek;
+use turn::skip::skip;
+ghost use Rattle.body.specs.declared.tag.Form.the-variants.{Snapshot};
 ghost use Rattle.item.specs.declared.reading.Reading.the-variants.{Announced, Changes};
 ghost use Rattle.walk.specs.Walk.{Stands, Wrote};
 

@@ -1,10 +1,7 @@
 // The walk over two runs: both read as changes, merged, and written. A difference is the merge of everything old
 // withdrawn with everything new announced; an application that of everything held announced with the delta.
 use crate::pass::put_pass;
-use crate::turn::Side;
-use crate::turn::Turn;
-use crate::turn::take_turn;
-use field::tag::Form;
+use body::tag::Form;
 use item::place::Entry;
 use item::place::Held;
 use item::reading::Read;
@@ -13,8 +10,10 @@ use item::reading::read_at;
 use item::sink::Counts;
 use item::sink::put_item;
 use item::table::merged;
+use turn::turn::Side;
+use turn::turn::Turn;
+use turn::turn::take_turn;
 ghost use mathlib.Core.Path.{_≡_};
-ghost use mathlib.Core.List.{_∷_, []};
 ghost use lib.ListN.{length, drop};
 ghost use lib.Seq.{sets};
 ghost use Rattle.item.specs.Place.{itemIn};

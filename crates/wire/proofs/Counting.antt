@@ -11,11 +11,12 @@ use lib.ListN.{length, getD, drop}
 use lib.Seq.{sets, length-take-le}
 use lib.ListN.{length-drop}
 use Rattle.change.specs.Change.{Change, announce, withdraw, update}
+use Rattle.number.specs.Bytes.{part}
+use Rattle.body.specs.Origin.{family, goodPrefix, goodOrigin}
+use Rattle.body.specs.RouterKey.{goodRouterKey}
+use Rattle.body.proofs.Sizes.{both}
 use Rattle.field.specs.declared.key.Key.{Key}
-use Rattle.field.specs.Origin.{family, goodPrefix, goodOrigin}
-use Rattle.field.specs.RouterKey.{goodRouterKey}
-use Rattle.field.specs.Places.{part, keyIn}
-use Rattle.field.proofs.Sizes.{both}
+use Rattle.field.specs.Places.{keyIn}
 use Rattle.payload.specs.Content.{Bytes}
 use Rattle.payload.specs.Valid.{ValidValue, ValidChange, origin, routerKey, aspa, validAnnounce, validWithdraw, validUpdate}
 use Rattle.payload.specs.Count.{announces, withdraws}

@@ -12,7 +12,7 @@ use Rattle.serial.specs.declared.Session.{Session}
 use Rattle.serial.specs.declared.timing.Timing.{Timing}
 use Rattle.serial.specs.Serial.{sessionOf}
 use Rattle.serial.specs.Timing.{timingOf}
-use Rattle.field.specs.Number.{twoBytes, fourBytes}
+use Rattle.number.specs.Number.{twoBytes, fourBytes}
 use Rattle.payload.specs.Content.{Bytes}
 use Rattle.item.proofs.Sinking.{sets-append}
 use Rattle.message.specs.declared.version.Version.{Version}

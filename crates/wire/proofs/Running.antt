@@ -11,11 +11,12 @@ use lib.ListN.{length, getD, drop}
 use lib.Seq.{sets}
 use Rattle.order.specs.Map.{Item, All}
 use Rattle.change.specs.Change.{Change, announce}
-use Rattle.field.specs.declared.tag.Form.the-variants.{Snapshot, Delta}
-use Rattle.field.specs.Tag.{tagOf, kindOf}
+use Rattle.number.specs.Bytes.{part}
+use Rattle.body.specs.declared.tag.Form.the-variants.{Snapshot, Delta}
+use Rattle.body.specs.Tag.{tagOf, kindOf}
 use Rattle.field.specs.Key.{keyOf}
-use Rattle.field.specs.Places.{part, keyIn}
-use Rattle.field.specs.Progress.{If}
+use Rattle.field.specs.Places.{keyIn}
+use Rattle.field.specs.If.{If}
 use Rattle.field.proofs.Run.{cells-more}
 use Rattle.field.proofs.Common.{Found, found-origin}
 use Rattle.payload.specs.Content.{Bytes}

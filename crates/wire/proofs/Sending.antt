@@ -16,9 +16,9 @@ use Rattle.serial.specs.declared.Serial.{Serial}
 use Rattle.serial.specs.declared.Session.{Session}
 use Rattle.serial.specs.declared.timing.Timing.{Timing}
 use Rattle.serial.specs.Serial.{distanceOf, sessionOf}
-use Rattle.field.specs.declared.tag.Form.the-variants.{Snapshot, Delta}
-use Rattle.field.specs.Number.{twoBytes, fourBytes}
-use Rattle.field.proofs.Sizes.{both}
+use Rattle.number.specs.Number.{twoBytes, fourBytes}
+use Rattle.body.specs.declared.tag.Form.the-variants.{Snapshot, Delta}
+use Rattle.body.proofs.Sizes.{both}
 use Rattle.payload.specs.Content.{Bytes}
 use Rattle.payload.specs.Written.{writtenIfRoom}
 use Rattle.payload.specs.Limit.{limit}

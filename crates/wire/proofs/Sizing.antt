@@ -10,11 +10,11 @@ use lib.ListN.{length, getD, drop, length-append}
 use Rattle.order.specs.Comparison.{bytes}
 use Rattle.order.specs.Map.{All}
 use Rattle.change.specs.Difference.{diff}
-use Rattle.field.specs.declared.tag.Form.the-variants.{Snapshot, Delta}
+use Rattle.number.specs.Bytes.{AllBytes}
+use Rattle.body.specs.declared.tag.Form.the-variants.{Snapshot, Delta}
+use Rattle.body.specs.Origin.{family}
 use Rattle.field.specs.declared.verdict.Verdict.the-variants.{Fine}
 use Rattle.field.specs.Verdict.{verdict}
-use Rattle.field.specs.Origin.{family}
-use Rattle.field.specs.Run.{AllBytes}
 use Rattle.field.specs.Cells as run
 use Rattle.payload.specs.Content.{Bytes, valuesFor}
 use Rattle.payload.specs.Valid.{Valid}

@@ -6,7 +6,7 @@ use lib.ListN.{length, getD, drop}
 use lib.Seq.{sets}
 use Rattle.order.specs.Map.{All}
 use Rattle.change.specs.Difference as change
-use Rattle.field.specs.declared.tag.Form.the-variants.{Snapshot, Delta}
+use Rattle.body.specs.declared.tag.Form.the-variants.{Snapshot, Delta}
 use Rattle.field.specs.declared.key.Key.{Key}
 use Rattle.field.specs.Places.{keyIn}
 use Rattle.payload.specs.Content.{Bytes}

@@ -9,7 +9,7 @@ use lib.Seq.{sets}
 use Rattle.order.specs.Map.{Item}
 use Rattle.change.specs.Change.{Change}
 use Rattle.change.specs.Difference as change
-use Rattle.field.specs.declared.tag.Form.the-variants.{Delta}
+use Rattle.body.specs.declared.tag.Form.the-variants.{Delta}
 use Rattle.field.specs.declared.key.Key.{Key}
 use Rattle.payload.specs.Content.{Bytes}
 use Rattle.payload.specs.Valid.{Valid}

@@ -5,7 +5,7 @@ use pdu::record::put_ipv4;
 use pdu::record::put_ipv6;
 ghost use mathlib.Core.Path.{_≡_};
 ghost use Prim.Native.Nat.{_<_, _^_};
-ghost use Rattle.field.specs.Progress.{If};
+ghost use Rattle.field.specs.If.{If};
 ghost use Rattle.item.specs.declared.reading.Reading.the-variants.{Announced};
 ghost use Rattle.item.specs.Reading.{Ready};
 ghost use Rattle.pdu.specs.Write.{PutIs};

@@ -1,9 +1,9 @@
 // What was written so far, and what was left out.
 use field::key::Key;
-use field::number::wide;
 use item::place::Act;
 use message::version::Version;
 use message::version::is_spoken;
+use number::wide;
 use pdu::record::flags_of;
 use pdu::record::put_message;
 ghost use mathlib.Core.Path.{_≡_};

@@ -1,5 +1,5 @@
 use borrow.Author.Needs.{needs}
-use Rattle.field.proofs.Fieldwords.{words-read}
+use Rattle.field.proofs.Fields.{words-read}
 use Rattle.field.proofs.words.words_at.Statement.{statement}
 use Rattle.field.proofs.words.words_at.Tie as tie
 

@@ -1,0 +1,4 @@
+pub mod Comparing
+pub mod Numbers
+pub mod Eights
+pub mod Values

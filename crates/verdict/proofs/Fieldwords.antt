@@ -1,0 +1,382 @@
+-- What the words of an origin's field say.
+use Prim.Native.Nat.{ℕ, _+_, _-_, _*_, _/_, _%_, _^_, _<_, _≤_}
+use mathlib.Core.Path.{_≡_, refl, sym, _∙_}
+use mathlib.Core.List.{List}
+use mathlib.Core.Bool.{Bool, true, false, not, cond, _||_, false≢true}
+use native.Mathlib.Nat.{div-lt-iff-lt-mul}
+use native.Mathlib.Omega.{arith}
+use borrow.Author.Tests.{le-leb, lt-leb, eq-eqb, ne-eqb, eqb-true, not-false}
+use mir.Syntax.{w64}
+use mir.Val.{Fits}
+use lib.Dec.{ltb, eqb}
+use lib.ListN.{length, getD, drop, length-take, length-drop}
+use lib.Seq.{getD-take, getD-drop}
+use Rattle.order.specs.declared.Ordering.{Ordering}
+use Rattle.order.specs.declared.Ordering.the-variants.{Less, Equal, Greater}
+use Rattle.order.specs.Comparison.{orElse, number, bytes, isLess}
+use Rattle.order.proofs.Comparison.{number-less, number-equal, number-greater}
+use Rattle.number.specs.Number.{twoAt, fourAt, wordAt}
+use Rattle.number.specs.Bytes.{part}
+use Rattle.number.proofs.Eights.{Octets, digits, two-digits, word-digits, part-bytes, part-digits, digits-decide, word-read}
+use Rattle.body.specs.declared.tag.Form.{Form}
+use Rattle.body.specs.declared.tag.Form.the-variants.{Snapshot, Delta}
+use Rattle.body.specs.Origin.{family, prefixLength, maximumLength, goodPrefix, goodOrigin}
+use Rattle.body.specs.Tag.{tagOf, kindOf}
+use Rattle.body.specs.Halves.{cleanHalves}
+use Rattle.body.proofs.Masks.{halves, halves-high}
+use Rattle.field.specs.declared.head.Field.the-variants.{Whole}
+use Rattle.field.specs.declared.words.Words.{Words}
+use Rattle.field.specs.Places.{fieldAt}
+use Rattle.field.specs.Words.{wordsAt}
+use Rattle.field.specs.If.{If}
+use Rattle.field.proofs.Fields.{field-whole}
+use Rattle.verdict.specs.declared.origins.Heads.{Heads}
+use Rattle.verdict.specs.Origins.{headsOf, hasHead, familyIn, prefixIn, maximumIn, highIn, lowIn, goodLengths, goodWords, belowWords, NextWords}
+
+-- a no decides nothing
+pub unsure : (P : Type 0) → If false P
+unsure P = record { holds = λ e. absurd (false≢true e) }
+
+-- ---- the functions of words
+
+module _ (form : Form) where
+  pub heads-held : form ≡ Snapshot → _≡_ {A = Heads} (record { one = 0x010017; other = 0x010017 }) (headsOf form)
+  heads-held e = rw e
+
+  pub heads-changed : form ≡ Delta → _≡_ {A = Heads} (record { one = 0x110017; other = 0x120017 }) (headsOf form)
+  heads-changed e = rw e
+
+  module _ (first : ℕ) (heads : Heads) (e : heads ≡ headsOf form) where
+    pub head-one : first / 1_099_511_627_776 ≡ heads .one → true ≡ hasHead (headsOf form) first
+    unfolding hasHead
+    head-one d = rw (← e, eq-eqb (first / 1_099_511_627_776) (heads .one) d)
+
+    pub head-other : (first / 1_099_511_627_776 ≡ heads .one → ⊥) → eqb (first / 1_099_511_627_776) (heads .other) ≡ hasHead (headsOf form) first
+    unfolding hasHead
+    head-other n = rw (← e, ne-eqb (first / 1_099_511_627_776) (heads .one) n)
+
+pub ruleset heading = (heads-held, heads-changed, head-one, head-other)
+
+-- half a word above half of another
+pub half-fits : (x y : ℕ) → Fits w64 y → Fits w64 (x % 4_294_967_296 * 4_294_967_296 + y / 4_294_967_296)
+half-fits x y f =
+    let b : y / 4_294_967_296 < 4_294_967_296 = div-lt-iff-lt-mul {k = 4_294_967_296} {x = y} {y = 4_294_967_296} (omega arith) .1 (f .fits) in
+    record { fits = sum (x % 4_294_967_296) (y / 4_294_967_296) (omega arith) b }
+  where
+    sum : (u v : ℕ) → u < 4_294_967_296 → v < 4_294_967_296 → u * 4_294_967_296 + v < 18_446_744_073_709_551_616
+    sum u v h k = omega arith
+
+module _ (w : Words) where
+  pub four-rest : w .second ≡ 0 → w .third / 16_777_216 ≤ maximumIn w → maximumIn w ≤ 32
+      → If (eqb ((w .first % 4_294_967_296 * 4_294_967_296 * 2 ^ (w .third / 16_777_216)) % 2 ^ 64) 0) (goodLengths 32 w ≡ true)
+  unfolding goodLengths
+  four-rest e h k =
+      let p : prefixIn w ≡ w .third / 16_777_216 = omega arith in
+      let l : lowIn w ≡ 0 = omega arith in
+      let g : highIn w ≡ w .first % 4_294_967_296 * 4_294_967_296 = omega arith in
+      record {
+        holds = λ t. rw (le-leb (prefixIn w) (maximumIn w) (omega arith), le-leb (maximumIn w) 32 k)
+            (sym (halves-high (prefixIn w) (highIn w) (lowIn w) (omega arith) l) ∙ rw (g, p) t);
+      }
+
+  pub six-low : maximumIn w < prefixIn w → false ≡ goodLengths 128 w
+  unfolding goodLengths
+  six-low h = rw (lt-leb (prefixIn w) (maximumIn w) h)
+
+  module _ (h : prefixIn w ≤ maximumIn w) where
+    pub six-bound : 128 < maximumIn w → false ≡ goodLengths 128 w
+    unfolding goodLengths
+    six-bound k = rw (le-leb (prefixIn w) (maximumIn w) h, lt-leb (maximumIn w) 128 k)
+
+    pub six-rest : maximumIn w ≤ 128 → (r : Bool) → r ≡ cleanHalves (prefixIn w) (highIn w) (lowIn w) → r ≡ goodLengths 128 w
+    unfolding goodLengths
+    six-rest k r q = rw (le-leb (prefixIn w) (maximumIn w) h, le-leb (maximumIn w) 128 k, q)
+
+  pub words-four : (r : Bool) → familyIn w ≡ 4 → If r (goodLengths 32 w ≡ true) → If r (goodWords w ≡ true)
+  unfolding goodWords
+  words-four r e i = record { holds = λ t. rw e (i .holds t) }
+
+  pub words-six : (r : Bool) → familyIn w ≡ 6 → r ≡ goodLengths 128 w → If r (goodWords w ≡ true)
+  unfolding goodWords
+  words-six r e q = record { holds = λ t. rw e (sym q ∙ t) }
+
+pub ruleset judging-words = (unsure, half-fits, four-rest, six-low, six-bound, six-rest, words-four, words-six)
+
+module _ (p q : Words) where
+  abbrev t : ℕ
+  t = p .first % 1_099_511_627_776
+
+  abbrev u : ℕ
+  u = q .first % 1_099_511_627_776
+
+  pub below-one : t < u → true ≡ belowWords p q
+  unfolding belowWords
+  below-one h = rw (number-less t u h)
+
+  pub above-one : u < t → false ≡ belowWords p q
+  unfolding belowWords
+  above-one h = rw (number-greater t u h)
+
+  module _ (h : u ≤ t) (k : t ≤ u) where
+    one : number t u ≡ Equal
+    one = number-equal t u (omega arith)
+
+    pub below-two : p .second < q .second → true ≡ belowWords p q
+    unfolding belowWords
+    below-two l = rw (one, number-less (p .second) (q .second) l)
+
+    pub above-two : q .second < p .second → false ≡ belowWords p q
+    unfolding belowWords
+    above-two l = rw (one, number-greater (p .second) (q .second) l)
+
+    module _ (l : q .second ≤ p .second) (m : p .second ≤ q .second) where
+      two : number (p .second) (q .second) ≡ Equal
+      two = number-equal (p .second) (q .second) (omega arith)
+
+      pub below-three : p .third < q .third → true ≡ belowWords p q
+      unfolding belowWords
+      below-three n = rw (one, two, number-less (p .third) (q .third) n)
+
+      pub above-three : q .third < p .third → false ≡ belowWords p q
+      unfolding belowWords
+      above-three n = rw (one, two, number-greater (p .third) (q .third) n)
+
+      pub below-last : q .third ≤ p .third → p .third ≤ q .third → ltb (p .last) (q .last) ≡ belowWords p q
+      unfolding belowWords
+      below-last n o =
+          rw (one, two, number-equal (p .third) (q .third) (omega arith)) (go (ltb (p .last) (q .last)) (ltb (q .last) (p .last)))
+        where
+          go : (s t : Bool) → s ≡ isLess (cond s Less (cond t Greater Equal))
+          go true t = refl
+          go false true = refl
+          go false false = refl
+
+pub ruleset lowering = (below-one, above-one, below-two, above-two, below-three, above-three, below-last)
+
+pub next-below : (form : Form) (before field : Words) (b : Bool) → b ≡ hasHead (headsOf form) (field .first) → not b ≡ false
+    → (g : Bool) → If g (goodWords field ≡ true) → not g ≡ false → (r : Bool) → r ≡ belowWords before field → If r (NextWords form before field)
+next-below form before field b i t g j u r q =
+    record {
+      holds = λ y. record { head = sym i ∙ not-false b t; good = j .holds (not-false g u); above = sym q ∙ y };
+    }
+
+pub ruleset nexting = (unsure, next-below)
+
+-- ---- what they say of the bytes
+
+-- the halves of a word
+module _ (s : List ℕ) (o : Octets s) (i : ℕ) where
+  four-lt : (j : ℕ) → fourAt s j < 4_294_967_296
+  four-lt j = omega (arith, o j .fits, o (j + 1) .fits, o (j + 2) .fits, o (j + 3) .fits)
+
+  high-half : wordAt s i / 4_294_967_296 ≡ fourAt s i
+  unfolding wordAt
+  high-half = plain (fourAt s i) (fourAt s (i + 4)) (four-lt (i + 4))
+    where
+      plain : (x y : ℕ) → y < 4_294_967_296 → (x * 4_294_967_296 + y) / 4_294_967_296 ≡ x
+      plain x y h = omega arith
+
+  low-half : wordAt s i % 4_294_967_296 ≡ fourAt s (i + 4)
+  unfolding wordAt
+  low-half = plain (fourAt s i) (fourAt s (i + 4)) (four-lt (i + 4))
+    where
+      plain : (x y : ℕ) → y < 4_294_967_296 → (x * 4_294_967_296 + y) % 4_294_967_296 ≡ y
+      plain x y h = omega arith
+
+-- the field at `at`
+module _ (s : List ℕ) (o : Octets s) (at : ℕ) (h : at + 26 ≤ length s) where
+  abbrev w : Words
+  w = wordsAt s at
+
+  abbrev body : List ℕ
+  body = part s (at + 3) (at + 26)
+
+  body-long : length body ≡ 23
+  body-long = simp (length-take, length-drop) (omega arith)
+
+  -- a byte of the body
+  body-at : (i : ℕ) → i < 23 → getD body i 0 ≡ getD s (at + 3 + i) 0
+  body-at i k = getD-take (at + 26 - (at + 3)) (drop (at + 3) s) i 0 (omega arith) ∙ getD-drop (at + 3) s i 0
+
+  body-bytes : Octets body
+  body-bytes = part-bytes s o (at + 3) (at + 26)
+
+  -- a number in it
+  body-digits : (n i j : ℕ) → i + n ≤ 23 → j ≡ at + 3 + i → digits n s j ≡ digits n body i
+  body-digits n i j k e = rw e (sym (part-digits s (at + 3) (at + 26) i n (omega arith)))
+
+  body-word : (i j : ℕ) → i + 8 ≤ 23 → j ≡ at + 3 + i → wordAt s j ≡ wordAt body i
+  body-word i j k e = word-digits s j ∙ body-digits 8 i j k e ∙ sym (word-digits body i)
+
+  tag-is : w .first / 72_057_594_037_927_936 ≡ getD s at 0
+  tag-is =
+      let e = high-half s o at in
+      let d : w .first / 72_057_594_037_927_936 ≡ w .first / 4_294_967_296 / 16_777_216 = omega arith in
+      d ∙ rw e (omega (arith, o (at + 1) .fits, o (at + 2) .fits, o (at + 3) .fits))
+
+  size-is : w .first / 1_099_511_627_776 % 65_536 ≡ twoAt s (at + 1)
+  size-is =
+      let e = high-half s o at in
+      let d : w .first / 1_099_511_627_776 ≡ w .first / 4_294_967_296 / 256 = omega arith in
+      let z : at + 1 + 1 ≡ at + 2 = omega arith in
+      rw (d, e, z) (omega (arith, o at .fits, o (at + 1) .fits, o (at + 2) .fits, o (at + 3) .fits))
+
+  family-is : familyIn w ≡ family body
+  family-is =
+      let z : at + 3 + 0 ≡ at + 3 = omega arith in
+      rw (high-half s o at, body-at 0 (omega arith), z) (omega (arith, o (at + 3) .fits))
+
+  -- of the second half of the third word the first byte and the second
+  lengths : (prefixIn w ≡ getD s (at + 20) 0) × (maximumIn w ≡ getD s (at + 21) 0)
+  lengths =
+      let z0 : at + 16 + 4 ≡ at + 20 = omega arith in
+      let z1 : at + 20 + 1 ≡ at + 21 = omega arith in
+      let z2 : at + 20 + 2 ≡ at + 22 = omega arith in
+      let z3 : at + 20 + 3 ≡ at + 23 = omega arith in
+      let e = rw (z0, z1, z2, z3) at (low-half s o (at + 16)) in
+      plain (w .third) (getD s (at + 20) 0) (getD s (at + 21) 0) (getD s (at + 22) 0) (getD s (at + 23) 0) e (o (at + 21) .fits) (o (at + 22) .fits) (o (at + 23) .fits) (o (at + 20) .fits)
+    where
+      plain : (x a b c d : ℕ) → x % 4_294_967_296 ≡ ((a * 256 + b) * 256 + c) * 256 + d → b < 256 → c < 256 → d < 256 → a < 256
+          → (x / 16_777_216 % 256 ≡ a) × (x / 65_536 % 256 ≡ b)
+      plain x a b c d e k l m n = (omega arith, omega arith)
+
+  prefix-is : prefixIn w ≡ prefixLength body
+  prefix-is = let z : at + 3 + 17 ≡ at + 20 = omega arith in rw (body-at 17 (omega arith), z) (lengths .0)
+
+  maximum-is : maximumIn w ≡ maximumLength body
+  maximum-is = let z : at + 3 + 18 ≡ at + 21 = omega arith in rw (body-at 18 (omega arith), z) (lengths .1)
+
+  -- the second half of a word and the first of the next
+  across : (i : ℕ) → wordAt s i % 4_294_967_296 * 4_294_967_296 + wordAt s (i + 8) / 4_294_967_296 ≡ wordAt s (i + 4)
+  across i = rw (low-half s o i, high-half s o (i + 8)) (joined i)
+    where
+      joined : (i : ℕ) → fourAt s (i + 4) * 4_294_967_296 + fourAt s (i + 8) ≡ wordAt s (i + 4)
+      joined i = let z : i + 4 + 4 ≡ i + 8 = omega arith in word-read s (i + 4) (fourAt s (i + 4)) (fourAt s (i + 8)) refl (rw z)
+
+  high-is : highIn w ≡ wordAt body 1
+  high-is = across at ∙ body-word 1 (at + 4) (omega arith) (omega arith)
+
+  low-is : lowIn w ≡ wordAt body 9
+  low-is =
+      let z : at + 8 + 8 ≡ at + 16 = omega arith in
+      (rw z at (across (at + 8))) ∙ body-word 9 (at + 8 + 4) (omega arith) (omega arith)
+
+  lengths-good : (bound : ℕ) → goodLengths bound w ≡ goodPrefix bound body
+  unfolding goodLengths goodPrefix
+  lengths-good bound =
+      rw (prefix-is, maximum-is, high-is, low-is, halves body body-bytes 1 (rw body-long (omega arith)) (prefixLength body))
+
+  -- the body is good where its words are
+  words-good : goodWords w ≡ goodOrigin body
+  unfolding goodWords goodOrigin
+  words-good = rw (family-is, lengths-good 32, lengths-good 128, eq-eqb (length body) 23 body-long)
+
+  -- the five bytes behind the head
+  five-digits : wordAt s at % 1_099_511_627_776 ≡ digits 5 s (at + 3)
+  unfolding digits
+  five-digits =
+      let e = high-half s o at in
+      let f = low-half s o at in
+      let d : wordAt s at % 1_099_511_627_776 ≡ wordAt s at / 4_294_967_296 % 256 * 4_294_967_296 + wordAt s at % 4_294_967_296 = omega arith in
+      let z0 : at + 3 + 0 ≡ at + 3 = omega arith in
+      let z1 : at + 3 + 1 ≡ at + 4 = omega arith in
+      let z2 : at + 3 + 2 ≡ at + 4 + 1 = omega arith in
+      let z3 : at + 3 + 3 ≡ at + 4 + 2 = omega arith in
+      let z4 : at + 3 + 4 ≡ at + 4 + 3 = omega arith in
+      d ∙ rw (e, f, z0, z1, z2, z3, z4) (omega (arith, o (at + 3) .fits))
+
+  -- it has the head of an origin
+  pub record OriginHead (form : Form) : Type 0 where
+    pub kind : kindOf form (getD s at 0) ≡ 1
+    pub reads : Whole (getD s at 0) (at + 3) (at + 26) ≡ fieldAt s at
+
+  -- the words of the body are its numbers of 5, 8, 8 and 2 bytes
+  pub record Numbers : Type 0 where
+    pub one : w .first % 1_099_511_627_776 ≡ digits 5 body 0
+    pub two : w .second ≡ digits 8 body 5
+    pub three : w .third ≡ digits 8 body 13
+    pub four : w .last ≡ digits 2 body 21
+
+  numbers : Numbers
+  numbers =
+      record {
+        one = five-digits ∙ body-digits 5 0 (at + 3) (omega arith) (omega arith);
+        two = word-digits s (at + 8) ∙ body-digits 8 5 (at + 8) (omega arith) (omega arith);
+        three = word-digits s (at + 16) ∙ body-digits 8 13 (at + 16) (omega arith) (omega arith);
+        four = two-digits s (at + 24) ∙ body-digits 2 21 (at + 24) (omega arith) (omega arith);
+      }
+
+  -- its tag and length, by its head
+  head-is : (form : Form) (tag : ℕ) → kindOf form tag ≡ 1 → w .first / 1_099_511_627_776 ≡ tag * 65_536 + 23 → OriginHead form
+  head-is form tag k e =
+      let d : w .first / 72_057_594_037_927_936 ≡ tag = omega arith in
+      let n : w .first / 1_099_511_627_776 % 65_536 ≡ 23 = omega arith in
+      let z : at + 3 + 23 ≡ at + 26 = omega arith in
+      record {
+        kind = rw (sym d ∙ tag-is) at k;
+        reads = rw z at (field-whole s at 23 (omega arith) (omega arith) (sym n ∙ size-is) (omega arith));
+      }
+
+  head-cases : (form : Form) (x y : Bool) → eqb (w .first / 1_099_511_627_776) (headsOf form .one) ≡ x → eqb (w .first / 1_099_511_627_776) (headsOf form .other) ≡ y
+      → x || y ≡ true → OriginHead form
+  unfolding kindOf tagOf
+  head-cases Snapshot true y d e f = head-is Snapshot 0x01 refl (eqb-true (w .first / 1_099_511_627_776) 0x010017 d)
+  head-cases Snapshot false true d e f = head-is Snapshot 0x01 refl (eqb-true (w .first / 1_099_511_627_776) 0x010017 e)
+  head-cases Delta true y d e f = head-is Delta 0x11 refl (eqb-true (w .first / 1_099_511_627_776) 0x110017 d)
+  head-cases Delta false true d e f = head-is Delta 0x12 refl (eqb-true (w .first / 1_099_511_627_776) 0x120017 e)
+  head-cases form false false d e f = absurd (false≢true f)
+
+  -- what the words of a good origin's field say of it
+  module _ (form : Form) (before : Words) (n : NextWords form before w) where
+    pub next-head : OriginHead form
+    unfolding hasHead
+    next-head = head-cases form (eqb (w .first / 1_099_511_627_776) (headsOf form .one)) (eqb (w .first / 1_099_511_627_776) (headsOf form .other)) refl refl (n .head)
+
+    pub next-good : goodOrigin body ≡ true
+    next-good = sym words-good ∙ n .good
+
+-- a first comparison, and what it leaves to others
+first-less : (x r q : Ordering) → (isLess r ≡ true → q ≡ Less) → isLess (orElse x r) ≡ true → orElse x q ≡ Less
+first-less Less r q f e = refl
+first-less Equal r q f e = f e
+first-less Greater r q f e = absurd (false≢true e)
+
+-- the bodies at i and at j stand in order where their words do
+module _ (s : List ℕ) (o : Octets s) (i j : ℕ) (h : i + 26 ≤ length s) (k : j + 26 ≤ length s) where
+  abbrev a : List ℕ
+  a = part s (i + 3) (i + 26)
+
+  abbrev b : List ℕ
+  b = part s (j + 3) (j + 26)
+
+  abbrev compared : ℕ → ℕ → Ordering
+  compared n m = number (digits n a m) (digits n b m)
+
+  decide : (n m : ℕ) → m + n ≤ 23 → bytes (drop m a) (drop m b) ≡ orElse (compared n m) (bytes (drop (m + n) a) (drop (m + n) b))
+  decide n m l =
+      let x = body-long s o i h in
+      let y = body-long s o j k in
+      digits-decide a b (body-bytes s o i h) (body-bytes s o j k) m n (omega arith) (omega arith)
+
+  pub words-less : belowWords (wordsAt s i) (wordsAt s j) ≡ true → bytes a b ≡ Less
+  unfolding belowWords
+  words-less e =
+      let x = numbers s o i h in
+      let y = numbers s o j k in
+      let f : isLess (orElse (compared 5 0) (orElse (compared 8 5) (orElse (compared 8 13) (compared 2 21)))) ≡ true
+      = rw (x .one, y .one, x .two, y .two, x .three, y .three, x .four, y .four) at e in
+      decide 5 0 (omega arith) ∙ first-less (compared 5 0) (orElse (compared 8 5) (orElse (compared 8 13) (compared 2 21))) (bytes (drop 5 a) (drop 5 b)) second f
+    where
+      last : isLess (compared 2 21) ≡ true → bytes (drop 21 a) (drop 21 b) ≡ Less
+      last e = decide 2 21 (omega arith) ∙ only (compared 2 21) e
+        where
+          only : (x : Ordering) → isLess x ≡ true → orElse x (bytes (drop 23 a) (drop 23 b)) ≡ Less
+          only Less e = refl
+          only Equal e = absurd (false≢true e)
+          only Greater e = absurd (false≢true e)
+
+      third : isLess (orElse (compared 8 13) (compared 2 21)) ≡ true → bytes (drop 13 a) (drop 13 b) ≡ Less
+      third e = decide 8 13 (omega arith) ∙ first-less (compared 8 13) (compared 2 21) (bytes (drop 21 a) (drop 21 b)) last e
+
+      second : isLess (orElse (compared 8 5) (orElse (compared 8 13) (compared 2 21))) ≡ true → bytes (drop 5 a) (drop 5 b) ≡ Less
+      second e = decide 8 5 (omega arith) ∙ first-less (compared 8 5) (orElse (compared 8 13) (compared 2 21)) (bytes (drop 13 a) (drop 13 b)) third e
