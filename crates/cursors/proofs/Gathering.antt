@@ -3,6 +3,7 @@ use Prim.Native.Nat.{ℕ, zero, suc, _+_, _-_, _≤_, _<_}
 use mathlib.Core.Path.{_≡_, refl, sym, ap, _∙_}
 use mathlib.Core.List.{List, [], _∷_, map, foldl}
 use mathlib.Core.Option.{none, some}
+use mathlib.Core.Bool.{Bool, true}
 use native.Mathlib.Omega.{arith}
 use native.Mathlib.Decide.{ℕ-discrete}
 use lib.ListN.{length, getD, set, length-set}
@@ -15,6 +16,7 @@ use Rattle.order.specs.Many.{first, past, pastOf}
 use Rattle.order.proofs.Comparison.{strings}
 use Rattle.change.specs.Merge.{mergeAt, table}
 use Rattle.change.proofs.Tables.{none-merge}
+use Rattle.field.specs.Progress.{If}
 use Rattle.payload.specs.Content.{Bytes}
 use Rattle.item.specs.declared.place.Act.{Act}
 use Rattle.item.specs.declared.place.Held.{Held}
@@ -24,7 +26,7 @@ use Rattle.cursors.specs.declared.said.Said.{Said}
 use Rattle.cursors.specs.declared.said.Said.the-variants as said
 use Rattle.cursors.specs.Cursor.{D, run, runsN, runs, Stands, Within, keyAt, Filled, HeldAt, ChangeFits, Says, Gathered}
 use Rattle.item.specs.Front.{frontKey, top}
-use Rattle.cursors.specs.Front.{frontOf, Fronts, Blocks, Finds, Settled, Fronted, lined, line, Meets, Advances, Advanced, Takes, Taken}
+use Rattle.cursors.specs.Front.{frontOf, Fronts, Blocks, Finds, Settled, Fronted, lined, line, keyOfRun, Alike, Meets, Advances, Advanced, Takes, Taken}
 use Rattle.cursors.proofs.Standing.{runs-cons, runs-nil}
 use Rattle.cursors.proofs.Leasting.{filled-low}
 
@@ -162,12 +164,14 @@ pass-many s at₀ ends from n k at f held low r (suc m) a b i t e q =
     (λ z. q (r + m) (omega arith) (omega arith) (omega arith) (line t .each (r + m) (omega arith) (omega arith) .is ∙ z ∙ sym e)))
     refl)
 
-pub record Gathering (s : Bytes) (at₀ ends : List ℕ) (f₀ : List ℕ) (low from n first last q g : ℕ) (at f : List ℕ) (held : Held) (r : ℕ) : Type 0 where
+pub record Gathering (s : Bytes) (at₀ ends : List ℕ) (f₀ : List ℕ) (low from n first last q g : ℕ) (same : Bool) (at f : List ℕ) (held : Held) (r : ℕ) : Type 0 where
+  pub alike : same ≡ true → (j : ℕ) → first ≤ j → r ≤ j → j ≤ last → getD f j 0 ≡ low → keyOfRun s at ends j ≡ keyAt s q g
   pub key : Filled s q g
   pub few : n ≤ 64
   pub some-left : low < top
   pub long : length f ≡ length f₀
   pub same-long : length at ≡ length at₀
+  pub begin : first ≤ r
   pub start : from ≤ r
   pub until : r ≤ last + 1
   pub inside : last < n
@@ -176,17 +180,19 @@ pub record Gathering (s : Bytes) (at₀ ends : List ℕ) (f₀ : List ℕ) (low 
   pub front : low ≡ frontKey (keyAt s q g)
   pub behind : (j : ℕ) → last < j → j < n → getD f j 0 ≡ low → ⊥
 
-pub gather-start : (s : Bytes) (at ends f : List ℕ) (low from n first last q g : ℕ) → Meets s at ends from n f low first last q g →
-    Gathering s at ends f low from n first last q g at f Nothing first
-gather-start s at ends f low from n first last q g m =
+pub gather-start : (s : Bytes) (at ends f : List ℕ) (low from n first last q g : ℕ) (same : Bool) → Meets s at ends from n f low first last q g same →
+    Gathering s at ends f low from n first last q g same at f Nothing first
+gather-start s at ends f low from n first last q g same m =
     let t = m .tied in
     let z : from + (first - from) ≡ first = omega (arith, t .ahead) in
     record {
+      alike = λ z j x y u e. m .alike z j x u e;
       key = m .key;
       few = m .within .few;
       some-left = m .some-left;
       long = refl;
       same-long = refl;
+      begin = omega arith;
       start = t .ahead;
       until = omega (arith, t .ordered);
       inside = t .inside;
@@ -197,7 +203,7 @@ gather-start s at ends f low from n first last q g m =
       behind = λ j x y e. omega (arith, t .others j (omega (arith, t .ahead, t .ordered)) y e .1);
     }
 
-module _ (s : Bytes) (at₀ ends f₀ : List ℕ) (low from n first last q g : ℕ) (at f : List ℕ) (held : Held) (r : ℕ) (i : Gathering s at₀ ends f₀ low from n first last q g at f held r) where
+module _ (s : Bytes) (at₀ ends f₀ : List ℕ) (low from n first last q g : ℕ) (same : Bool) (at f : List ℕ) (held : Held) (r : ℕ) (i : Gathering s at₀ ends f₀ low from n first last q g same at f held r) where
   pub gather-blocks : Blocks f
   gather-blocks = line (i .fronted) .blocks
 
@@ -211,11 +217,12 @@ module _ (s : Bytes) (at₀ ends f₀ : List ℕ) (low from n first last q g : �
         rw z at (pass-many s at₀ ends from n (keyAt s q g) at f held low r (c - r) (i .start) (omega (arith, z, i .inside)) (to-now (i .so-far)) (i .fronted) (i .front)
         (λ j x y w. t .other j x (omega (arith, z)) (omega (arith, z))))
 
-    pub gather-takes : p ≤ last → Takes s at ends f p q g held
+    pub gather-takes : p ≤ last → Takes s at ends f p q g same held
     gather-takes h =
         let c = to-now (i .so-far) in
         let e = line (i .fronted) .each p (omega (arith, i .start, t .ahead)) (omega (arith, i .inside)) in
         record {
+          alike = record { holds = λ z. i .alike z p (omega (arith, t .ahead, i .begin)) (t .ahead) h (t .found (omega arith)) };
           key = i .key;
           long = c .within .long;
           long-ends = c .within .long-ends;
@@ -226,8 +233,10 @@ module _ (s : Bytes) (at₀ ends f₀ : List ℕ) (low from n first last q g : �
           inside = c .inside;
         }
 
-    pub gather-again : p ≤ last → (at′ f′ : List ℕ) (c : Held) → Taken s at at′ ends f f′ p q g held c → Gathering s at₀ ends f₀ low from n first last q g at′ f′ c (p + 1)
+    pub gather-again : p ≤ last → (at′ f′ : List ℕ) (c : Held) → Taken s at at′ ends f f′ p q g held c → Gathering s at₀ ends f₀ low from n first last q g same at′ f′ c (p + 1)
     gather-again h at′ f′ c u = record {
+      alike = λ z j x l o e. rw (u .moved, getD-set-other at p j (u .place) 0 (λ d. omega arith)) (i .alike z j x (omega (arith, t .ahead)) o (sym (y .others j (omega (arith, i .few, i .inside)) (λ d. omega arith)) ∙ e));
+      begin = omega (arith, i .begin, t .ahead);
       key = i .key;
       few = i .few;
       some-left = i .some-left;
@@ -270,7 +279,10 @@ module _ (s : Bytes) (at₀ ends f₀ : List ℕ) (low from n first last q g : �
 
 -- ---- take
 
-module _ (s : Bytes) (at ends f : List ℕ) (p q g : ℕ) (held : Held) (i : Takes s at ends f p q g held) where
+module _ (s : Bytes) (at ends f : List ℕ) (p q g : ℕ) (same : Bool) (held : Held) (i : Takes s at ends f p q g same held) where
+  pub take-alike : If same (keyOfRun s at ends p ≡ keyAt s q g)
+  take-alike = i .alike
+
   pub take-key : Filled s q g
   take-key = i .key
 
@@ -316,6 +328,6 @@ module _ (s : Bytes) (at ends f : List ℕ) (p q g : ℕ) (held : Held) (i : Tak
         holds = record { fits = m .fits; is = rw (u .change, e) (m .is) };
       }
 
-pub ruleset taking = (take-key, take-filled, take-inside, take-none, take-act, take-next, take-some)
+pub ruleset taking = (take-alike, take-key, take-filled, take-inside, take-none, take-act, take-next, take-some)
 
 pub ruleset gathering = (gather-start, gather-blocks, gather-room, gather-takes, gather-again, gather-done, gather-fronted)

@@ -3,6 +3,7 @@ use Prim.Native.Nat.{ℕ, zero, suc, _+_, _-_, _≤_, _<_}
 use mathlib.Core.Path.{_≡_, refl, sym, ap, _∙_}
 use mathlib.Core.List.{List, [], _∷_, foldl}
 use mathlib.Core.Option.{Option, none, some}
+use mathlib.Core.Bool.{Bool, true}
 use native.Mathlib.Omega.{arith}
 use native.Mathlib.Decide.{decLe}
 use lib.ListN.{length, getD}
@@ -14,11 +15,12 @@ use Rattle.order.specs.Many.{lower, lowerOf, least}
 use Rattle.change.specs.Change.{Change}
 use Rattle.field.specs.Run.{AllBytes}
 use Rattle.payload.specs.Content.{Bytes}
+use Rattle.cursors.specs.declared.least.Lower.{Lower}
 use Rattle.cursors.specs.declared.least.Found.{Found}
 use Rattle.cursors.specs.declared.least.Found.the-variants.{Nothing, At}
 use Rattle.cursors.specs.Cursor.{D, run, runsN, runs, Stands, Within, headKey, keyAt, Filled}
 use Rattle.item.specs.Front.{frontKey, top}
-use Rattle.cursors.specs.Front.{frontOf, HeadBytes, Fronts, Sits, nowhere, on, Blocks, Finds, Fronted, line, Looks, Pair, OneOf, left, right, keyOfRun, Lowers, Tied, LeastBy, nowhere-left, stands-at}
+use Rattle.cursors.specs.Front.{frontOf, HeadBytes, Fronts, Sits, nowhere, on, Blocks, Finds, Fronted, line, Looks, Pair, OneOf, left, right, keyOfRun, Lowers, Tied, Alike, LeastBy, nowhere-left, stands-at}
 use Rattle.cursors.proofs.Standing.{runs-cons, runs-nil}
 use Rattle.item.proofs.Fronts.{front-less, front-greater}
 use Rattle.cursors.proofs.Eights.{all-under, all-sits}
@@ -138,7 +140,8 @@ module _ (s : Bytes) (at ends : List ℕ) (from n : ℕ) (f : List ℕ) (low : �
       rw (runs-cons s at ends r n (omega arith))
       (ap (λ (o : Option Bytes). foldl (lower bytes) o (runsN s at ends (r + 1) (n - (r + 1)))) (sym p) ∙ passes k e m (r + 1) t (omega arith) (omega arith) h (λ j b c d. q j (omega arith) c d))
 
-pub record Leasting (s : Bytes) (at ends : List ℕ) (from n : ℕ) (f : List ℕ) (low first best last : ℕ) : Type 0 where
+pub record Leasting (s : Bytes) (at ends : List ℕ) (from n : ℕ) (f : List ℕ) (low first best last : ℕ) (same : Bool) : Type 0 where
+  pub alike : same ≡ true → Alike s at ends f low first last (getD at best 0) (getD ends best 0)
   pub looks : Looks s at ends from n f low
   pub few : n ≤ 64
   pub some-left : low < top
@@ -151,16 +154,17 @@ pub record Leasting (s : Bytes) (at ends : List ℕ) (from n : ℕ) (f : List �
   pub left : foldl (lower bytes) (some (keyOfRun s at ends best)) (runsN s at ends (last + 1) (n - (last + 1))) ≡ least bytes (runs s at ends from n)
 
 pub least-start : (s : Bytes) (at ends : List ℕ) (from n : ℕ) (f : List ℕ) (low : ℕ) → Looks s at ends from n f low → low < 18446744073709551616 → (low ≡ top → ⊥) →
-    (p : ℕ) → Finds f low from n p → Leasting s at ends from n f low p p p
+    (p : ℕ) → Finds f low from n p → Leasting s at ends from n f low p p p true
 least-start s at ends from n f low w b e p t = go (all-sits f low (line (w .fronted) .blocks) (w .lowest) e)
   where
-    build : p < n → Leasting s at ends from n f low p p p
+    build : p < n → Leasting s at ends from n f low p p p true
     build h =
         let z : from + (p - from) ≡ p = omega (arith, t .ahead) in
         let c = before s at ends from n f low w (p - from) p (sym z) (omega arith) (λ j x y u. t .other j x y u) in
         let v : low < top = omega (arith, b, e) in
         let y : frontOf (run s (getD at p 0) (getD ends p 0)) ≡ low = sym (line (w .fronted) .each p (t .ahead) h .is) ∙ t .found h in
         record {
+          alike = λ z j x y q. let d : j ≡ p = omega arith in rw d;
           looks = w;
           few = w .within .few;
           some-left = v;
@@ -173,17 +177,17 @@ least-start s at ends from n f low w b e p t = go (all-sits f low (line (w .fron
           left = rw (← meet-first low (c .so-far) (run s (getD at p 0) (getD ends p 0)) (c .above) y v) (rw (runs-cons s at ends p n h) at (c .left));
         }
 
-    inside : (j : ℕ) → j < 64 → getD f j 0 ≡ low → Dec (from ≤ j) → Dec (n ≤ j) → Dec (p ≤ j) → Leasting s at ends from n f low p p p
+    inside : (j : ℕ) → j < 64 → getD f j 0 ≡ low → Dec (from ≤ j) → Dec (n ≤ j) → Dec (p ≤ j) → Leasting s at ends from n f low p p p true
     inside j y q (no a) c d = absurd (e (sym q ∙ line (w .fronted) .before j (omega arith) y))
     inside j y q (yes a) (yes c) d = absurd (e (sym q ∙ line (w .fronted) .behind j c y))
     inside j y q (yes a) (no c) (yes d) = build (omega arith)
     inside j y q (yes a) (no c) (no d) = absurd (t .other j a (omega arith) (omega arith) q)
 
-    go : Sits f 0 64 low → Leasting s at ends from n f low p p p
+    go : Sits f 0 64 low → Leasting s at ends from n f low p p p true
     go (nowhere q) = absurd (e q)
     go (on j x y q) = inside j y q (decLe from j) (decLe n j) (decLe p j)
 
-module _ (s : Bytes) (at ends : List ℕ) (from n : ℕ) (f : List ℕ) (low first best last : ℕ) (i : Leasting s at ends from n f low first best last) where
+module _ (s : Bytes) (at ends : List ℕ) (from n : ℕ) (f : List ℕ) (low first best last : ℕ) (same : Bool) (i : Leasting s at ends from n f low first best last same) where
   pub least-find : Blocks f
   least-find = line (i .looks .fronted) .blocks
 
@@ -214,8 +218,9 @@ module _ (s : Bytes) (at ends : List ℕ) (from n : ℕ) (f : List ℕ) (low fir
         sym (passes s at ends from n f low (i .looks) (keyOfRun s at ends best) (sym best-front) (q - (last + 1)) (last + 1) q (sym z) (omega (arith, i .ahead, i .ordered)) b
         (λ j x y u. t .other j x (omega arith) u)) ∙ i .left
 
-    pub least-again : p < n → (r : ℕ) → Lowers s at ends best p r → Leasting s at ends from n f low first r p
+    pub least-again : p < n → (r : Lower) → Lowers s at ends best p same r → Leasting s at ends from n f low first (r .run) p (r .same)
     least-again h r l = record {
+      alike = λ z j x y q. alike z j x y q (decLe j last) (decLe p j);
       looks = i .looks;
       few = i .few;
       some-left = i .some-left;
@@ -234,16 +239,23 @@ module _ (s : Bytes) (at ends : List ℕ) (from n : ℕ) (f : List ℕ) (low fir
         pair : Pair s at ends best p
         pair = least-pair h
 
-        one-in : OneOf best p r → (from ≤ r) × (r < n)
+        alike : r .same ≡ true → (j : ℕ) → first ≤ j → j ≤ p → getD f j 0 ≡ low → Dec (j ≤ last) → Dec (p ≤ j) →
+            keyOfRun s at ends j ≡ keyAt s (getD at (r .run) 0) (getD ends (r .run) 0)
+        alike z j x y q (yes d) c = rw (l .alike z .1) (i .alike (l .before z) j x d q)
+        alike z j x y q (no d) (yes c) = let e : j ≡ p = omega arith in rw (e, l .alike z .1) (sym (l .alike z .0))
+        alike z j x y q (no d) (no c) = absurd (t .other j (omega arith) (omega arith) (omega arith) q)
+
+        one-in : OneOf best p (r .run) → (from ≤ r .run) × (r .run < n)
         one-in (left e) = rw e (i .best-in)
         one-in (right e) = rw e (omega (arith, t .ahead, i .ahead, i .ordered), h)
 
-        one-low : OneOf best p r → getD f r 0 ≡ low
+        one-low : OneOf best p (r .run) → getD f (r .run) 0 ≡ low
         one-low (left e) = rw e (i .best-low)
         one-low (right e) = rw e (t .found h)
 
-    pub least-done : n ≤ p → LeastBy s at ends from n f low (At (getD at best 0) (getD ends best 0) first last)
-    least-done h = stands-at (getD at best 0) (getD ends best 0) first last refl (record {
+    pub least-done : n ≤ p → LeastBy s at ends from n f low (At (getD at best 0) (getD ends best 0) first last same)
+    least-done h = stands-at (getD at best 0) (getD ends best 0) first last same refl (record {
+      alike = i .alike;
       filled = filled best (i .best-in .0) (i .best-in .1) (i .best-low);
       key = sym (rw (runs-nil s at ends n n (omega arith)) at (reach n (omega (arith, i .inside)) (omega arith) h));
       front = best-front;

@@ -2,12 +2,13 @@
 use Prim.Native.Nat.{ℕ}
 use mathlib.Core.Path.{_≡_, refl, sym, ap, _∙_}
 use mathlib.Core.List.{List}
-use mathlib.Core.Bool.{Bool, true}
+use mathlib.Core.Bool.{Bool, true, false, false≢true}
 use lib.ListN.{length, getD, take}
 use lib.Seq.{length-take-le}
 use Rattle.order.specs.declared.Ordering.{Ordering}
 use Rattle.order.specs.declared.Ordering.the-variants.{Less, Equal, Greater}
 use Rattle.order.specs.Comparison.{bytes}
+use Rattle.order.proofs.Comparison.{strings}
 use Rattle.field.specs.Places.{keyIn}
 use Rattle.field.specs.Progress.{If}
 use Rattle.payload.specs.Content.{Bytes}
@@ -71,14 +72,19 @@ module _ (s : Bytes) (at ends : List ℕ) (b p : ℕ) (i : Pair s at ends b p) w
   pub pair-later : Filled s (getD at p 0) (getD ends p 0)
   pair-later = i .later
 
-module _ (s : Bytes) (at ends : List ℕ) (b p : ℕ) (o : Ordering) (c : o ≡ bytes (keyOfRun s at ends b) (keyOfRun s at ends p)) where
-  pub lower-less : o ≡ Less → Lowers s at ends b p b
-  lower-less d = record { one = left refl; key = rw (← c, d) }
+module _ (s : Bytes) (at ends : List ℕ) (b p : ℕ) (same : Bool) (o : Ordering) (c : o ≡ bytes (keyOfRun s at ends b) (keyOfRun s at ends p)) where
+  pub lower-less : o ≡ Less → Lowers s at ends b p same (record { run = b; same = false })
+  lower-less d = record { one = left refl; key = rw (← c, d); before = λ e. absurd (false≢true e); alike = λ e. absurd (false≢true e) }
 
-  pub lower-equal : o ≡ Equal → Lowers s at ends b p b
-  lower-equal d = record { one = left refl; key = rw (← c, d) }
+  pub lower-equal : o ≡ Equal → Lowers s at ends b p same (record { run = b; same = same })
+  lower-equal d = record {
+    one = left refl;
+    key = rw (← c, d);
+    before = λ e. e;
+    alike = λ e. (strings .same (keyOfRun s at ends b) (keyOfRun s at ends p) (sym c ∙ d), refl);
+  }
 
-  pub lower-greater : o ≡ Greater → Lowers s at ends b p p
-  lower-greater d = record { one = right refl; key = rw (← c, d) }
+  pub lower-greater : o ≡ Greater → Lowers s at ends b p same (record { run = p; same = false })
+  lower-greater d = record { one = right refl; key = rw (← c, d); before = λ e. absurd (false≢true e); alike = λ e. absurd (false≢true e) }
 
 pub ruleset lowering = (pair-earlier, pair-later, lower-less, lower-equal, lower-greater)

@@ -91,8 +91,8 @@ pub ruleset first-saying = (first-end, first-item, first-at, first-origin)
 -- ---- ask
 
 module _ (s : Bytes) (p e q g : ℕ) where
-  pub ask-same : p ≡ q → e ≡ g → (r : Said) → Says s p e (keyAt s p e) r → Says s p e (keyAt s q g) r
-  ask-same a b r h = rw (← a, ← b) h
+  pub ask-same : (b : Bool) → If b (keyAt s p e ≡ keyAt s q g) → b ≡ true → (r : Said) → Says s p e (keyAt s p e) r → Says s p e (keyAt s q g) r
+  ask-same b i d r h = rw (← i .holds d) h
 
   none-said : (k : Bytes) → first bytes k (run s p e) ≡ none → past bytes k (run s p e) ≡ run s p e → Says s p e k said.Nothing
   none-said k f b = record { fits = tt; change = f; gone = sym b }

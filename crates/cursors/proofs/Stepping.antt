@@ -3,6 +3,7 @@ use Prim.Native.Nat.{ℕ, suc, _≤_, _<_}
 use mathlib.Core.Path.{_≡_, refl, sym, _∙_}
 use mathlib.Core.List.{List, [], _∷_, map, foldl}
 use mathlib.Core.Option.{Option, none, some}
+use mathlib.Core.Bool.{Bool}
 use mathlib.Core.Logic.{_⊎_, inl, inr, ⊎-elim}
 use native.Mathlib.Omega.{arith}
 use lib.ListN.{length}
@@ -77,8 +78,8 @@ least-falls k ds e = ⊎-elim (λ h. absurd (none≢some {o = none} refl h)) (λ
 
 -- ---- next: what is left is what there was
 
-nothing≢at : (p e first last : ℕ) → found.Nothing ≡ found.At p e first last → ⊥
-nothing≢at p e first last q = let z : _≡_ {A = ℕ} 0 1 = cc in omega arith
+nothing≢at : (p e first last : ℕ) (same : Bool) → found.Nothing ≡ found.At p e first last same → ⊥
+nothing≢at p e first last same q = let z : _≡_ {A = ℕ} 0 1 = cc in omega arith
 
 pub record Stepping (s : Bytes) (at₀ ends : List ℕ) (f₀ : List ℕ) (from n : ℕ) (at f : List ℕ) : Type 0 where
   pub fronted : Fronted s at ends from n f
@@ -112,24 +113,25 @@ module _ (s : Bytes) (at₀ ends f₀ : List ℕ) (from n : ℕ) (at f : List �
       where
         go : LeastBy s at ends from n f low b → NextIs s at₀ at ends from n step.End
         go (nowhere-left q z) = record { walks = i .walks; fits = tt; is = i .left ∙ least-none strings (mergeAt bytes) refl (runs s at ends from n) z }
-        go (stands-at p t first last q z) = absurd (nothing≢at p t first last (sym e ∙ q))
+        go (stands-at p t first last same q z) = absurd (nothing≢at p t first last same (sym e ∙ q))
 
-    module _ (p t first last : ℕ) (e : b ≡ found.At p t first last) where
-      l : LeastIs s at ends from n f low p t first last
+    module _ (p t first last : ℕ) (same : Bool) (e : b ≡ found.At p t first last same) where
+      l : LeastIs s at ends from n f low p t first last same
       l = go lb
         where
-          go : LeastBy s at ends from n f low b → LeastIs s at ends from n f low p t first last
-          go (nowhere-left q z) = absurd (nothing≢at p t first last (sym q ∙ e))
-          go (stands-at p′ t′ first′ last′ q z) =
+          go : LeastBy s at ends from n f low b → LeastIs s at ends from n f low p t first last same
+          go (nowhere-left q z) = absurd (nothing≢at p t first last same (sym q ∙ e))
+          go (stands-at p′ t′ first′ last′ same′ q z) =
               let c = sym q ∙ e in
               let c1 : p′ ≡ p = cc in
               let c2 : t′ ≡ t = cc in
               let c3 : first′ ≡ first = cc in
               let c4 : last′ ≡ last = cc in
-              rw (← c1, ← c2, ← c3, ← c4) z
+              let c5 : same′ ≡ same = cc in
+              rw (← c1, ← c2, ← c3, ← c4, ← c5) z
 
-      pub step-meets : Meets s at ends from n f low first last p t
-      step-meets = record { key = l .filled; within = i .walks .within; fronted = i .fronted; front = l .front; some-left = l .some-left; tied = l .tied }
+      pub step-meets : Meets s at ends from n f low first last p t same
+      step-meets = record { alike = l .alike; key = l .filled; within = i .walks .within; fronted = i .fronted; front = l .front; some-left = l .some-left; tied = l .tied }
 
       pub step-filled : Filled s p t
       step-filled = l .filled

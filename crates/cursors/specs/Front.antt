@@ -3,15 +3,18 @@ use Prim.Native.Nat.{ℕ, zero, suc, _+_, _*_, _≤_, _<_}
 use mathlib.Core.Path.{_≡_}
 use mathlib.Core.List.{List, [], _∷_}
 use mathlib.Core.Option.{none, some}
+use mathlib.Core.Bool.{Bool, true}
 use lib.ListN.{length, getD, set, drop}
 use Rattle.order.specs.Comparison.{bytes}
 use Rattle.order.specs.Many.{lowerOf, least, first, past}
 use Rattle.change.specs.Merge.{mergeAt}
+use Rattle.field.specs.Progress.{If}
 use Rattle.field.specs.Run.{AllBytes}
 use Rattle.payload.specs.Content.{Bytes}
 use Rattle.item.specs.declared.place.Held.{Held}
 use Rattle.item.specs.Front.{frontKey, top}
 use Rattle.item.specs.Place.{heldIn, Holds}
+use Rattle.cursors.specs.declared.least.Lower.{Lower}
 use Rattle.cursors.specs.declared.least.Found.{Found}
 use Rattle.cursors.specs.declared.least.Found.the-variants as found
 use Rattle.cursors.specs.Cursor.{D, run, runs, Stands, Within, keyAt, Filled, HeldAt}
@@ -53,6 +56,12 @@ pub record Finds (f : List ℕ) (low from n r : ℕ) : Type 0 where
   pub found : r < n → getD f r 0 ≡ low
   pub ahead : from ≤ r
 
+-- the eights from `from` up to b are above low
+pub record Skips (f : List ℕ) (low from b : ℕ) : Type 0 where
+  pub above : (j : ℕ) → from ≤ j → j < b → low < getD f (64 + j) 0
+  pub ahead : from ≤ b
+  pub small : b ≤ 8
+
 -- the front at r is v now
 pub record Settled (f₀ f : List ℕ) (r v : ℕ) : Type 0 where
   pub blocks : Blocks f
@@ -90,7 +99,6 @@ pub record Pair (s : Bytes) (at ends : List ℕ) (b p : ℕ) : Type 0 where
   pub earlier : Filled s (getD at b 0) (getD ends b 0)
   pub later : Filled s (getD at p 0) (getD ends p 0)
 
--- r is b or p, whichever stands lower
 pub data OneOf (b p r : ℕ) : Type 0 where
   left : r ≡ b → OneOf b p r
   right : r ≡ p → OneOf b p r
@@ -98,9 +106,12 @@ pub data OneOf (b p r : ℕ) : Type 0 where
 abbrev pub keyOfRun : Bytes → List ℕ → List ℕ → ℕ → Bytes
 keyOfRun s at ends r = keyAt s (getD at r 0) (getD ends r 0)
 
-pub record Lowers (s : Bytes) (at ends : List ℕ) (b p r : ℕ) : Type 0 where
-  pub one : OneOf b p r
-  pub key : keyOfRun s at ends r ≡ lowerOf (bytes (keyOfRun s at ends b) (keyOfRun s at ends p)) (keyOfRun s at ends b) (keyOfRun s at ends p)
+-- the run is b or p, whichever stands lower; with `same` it was so before, and they stand at one key
+pub record Lowers (s : Bytes) (at ends : List ℕ) (b p : ℕ) (same : Bool) (r : Lower) : Type 0 where
+  pub one : OneOf b p (r .run)
+  pub key : keyOfRun s at ends (r .run) ≡ lowerOf (bytes (keyOfRun s at ends b) (keyOfRun s at ends p)) (keyOfRun s at ends b) (keyOfRun s at ends p)
+  pub before : r .same ≡ true → same ≡ true
+  pub alike : r .same ≡ true → (keyOfRun s at ends b ≡ keyOfRun s at ends p) × (r .run ≡ b)
 
 -- the first run and the last with the lowest front
 pub record Tied (f : List ℕ) (low from n first last : ℕ) : Type 0 where
@@ -109,8 +120,13 @@ pub record Tied (f : List ℕ) (low from n first last : ℕ) : Type 0 where
   pub inside : last < n
   pub others : (j : ℕ) → from ≤ j → j < n → getD f j 0 ≡ low → (first ≤ j) × (j ≤ last)
 
+-- all runs with the lowest front stand at the first key of the run from p up to e
+abbrev pub Alike : Bytes → List ℕ → List ℕ → List ℕ → ℕ → ℕ → ℕ → ℕ → ℕ → Type 0
+Alike s at ends f low first last p e = (j : ℕ) → first ≤ j → j ≤ last → getD f j 0 ≡ low → keyOfRun s at ends j ≡ keyAt s p e
+
 -- the run from p up to e stands at the least key
-pub record LeastIs (s : Bytes) (at ends : List ℕ) (from n : ℕ) (f : List ℕ) (low p e first last : ℕ) : Type 0 where
+pub record LeastIs (s : Bytes) (at ends : List ℕ) (from n : ℕ) (f : List ℕ) (low p e first last : ℕ) (same : Bool) : Type 0 where
+  pub alike : same ≡ true → Alike s at ends f low first last p e
   pub filled : Filled s p e
   pub key : least bytes (runs s at ends from n) ≡ some (keyAt s p e)
   pub front : low ≡ frontKey (keyAt s p e)
@@ -120,10 +136,11 @@ pub record LeastIs (s : Bytes) (at ends : List ℕ) (from n : ℕ) (f : List ℕ
 -- closed: a search does not look into it
 pub data LeastBy (s : Bytes) (at ends : List ℕ) (from n : ℕ) (f : List ℕ) (low : ℕ) (r : Found) : Type 0 where
   nowhere-left : r ≡ found.Nothing → least bytes (runs s at ends from n) ≡ none → LeastBy s at ends from n f low r
-  stands-at : (p e first last : ℕ) → r ≡ found.At p e first last → LeastIs s at ends from n f low p e first last → LeastBy s at ends from n f low r
+  stands-at : (p e first last : ℕ) (same : Bool) → r ≡ found.At p e first last same → LeastIs s at ends from n f low p e first last same → LeastBy s at ends from n f low r
 
 -- what the gathering at the first key of the run from q up to g may assume
-pub record Meets (s : Bytes) (at ends : List ℕ) (from n : ℕ) (f : List ℕ) (low first last q g : ℕ) : Type 0 where
+pub record Meets (s : Bytes) (at ends : List ℕ) (from n : ℕ) (f : List ℕ) (low first last q g : ℕ) (same : Bool) : Type 0 where
+  pub alike : same ≡ true → Alike s at ends f low first last q g
   pub key : Filled s q g
   pub within : Within s at ends n
   pub fronted : Fronted s at ends from n f
@@ -145,7 +162,8 @@ pub record Advanced (s : Bytes) (ends f₀ f : List ℕ) (p next : ℕ) : Type 0
   pub settled : Settled f₀ f p front
 
 -- what run p says of the first key of the run from q up to g is taken
-pub record Takes (s : Bytes) (at ends f : List ℕ) (p q g : ℕ) (held : Held) : Type 0 where
+pub record Takes (s : Bytes) (at ends f : List ℕ) (p q g : ℕ) (same : Bool) (held : Held) : Type 0 where
+  pub alike : If same (keyOfRun s at ends p ≡ keyAt s q g)
   pub key : Filled s q g
   pub long : length at ≡ 64
   pub long-ends : length ends ≡ 64

@@ -45,6 +45,7 @@ fn advance(
 }
 
 // What is held, and then what run p says of the first key of the run from q up to g; if it stands there it goes past it.
+// `same`: it is known to stand there.
 fn take(
     store: &[u8],
     at: &mut [usize; 64],
@@ -53,12 +54,13 @@ fn take(
     p: usize,
     q: usize,
     g: usize,
+    same: bool,
     held: Held,
 ) -> Held
-    requires { ⌜ Takes (now store) (now at) (now ends) (now f) p q g held ⌝ }
+    requires { ⌜ Takes (now store) (now at) (now ends) (now f) p q g same held ⌝ }
     ensures { λ r. ⌜ Taken (now (store .entry)) (now (at .entry)) (now (at .exit)) (now (ends .entry)) (now (f .entry)) (now (f .exit)) p q g held r ⌝ }
 {
-    let Said::Change(act, next) = ask(store, at[p], ends[p], q, g) else {
+    let Said::Change(act, next) = ask(store, at[p], ends[p], q, g, same) else {
         return held;
     };
     advance(store, at, ends, f, p, next);
@@ -67,6 +69,7 @@ fn take(
 
 // What the runs from `from` up to n say of the first key of the run from q up to g, merged; those that stand at it go
 // past it. Its front is low, and `first` and `last` are the first run and the last with that front: no other is asked.
+// `same`: all with that front are known to stand at it.
 pub(crate) fn gather(
     store: &[u8],
     at: &mut [usize; 64],
@@ -79,8 +82,9 @@ pub(crate) fn gather(
     last: usize,
     q: usize,
     g: usize,
+    same: bool,
 ) -> Held
-    requires { ⌜ Meets (now store) (now at) (now ends) from n (now f) low first last q g ⌝ }
+    requires { ⌜ Meets (now store) (now at) (now ends) from n (now f) low first last q g same ⌝ }
     ensures { λ r. ⌜ Gathered (now (store .entry)) (now (at .entry)) (now (at .exit)) (now (ends .entry)) from n (keyAt (now (store .entry)) q g) r × Fronted (now (store .entry)) (now (at .exit)) (now (ends .entry)) from n (now (f .exit)) ⌝ }
 {
     let mut held = Held::Nothing;
@@ -91,6 +95,6 @@ pub(crate) fn gather(
             return held;
         }
         r = p + 1;
-        held = take(store, at, ends, f, p, q, g, held);
+        held = take(store, at, ends, f, p, q, g, same, held);
     }
 }

@@ -44,10 +44,10 @@ pub fn next(
 {
     loop {
         let low = of_eight(f, 64);
-        let Found::At(p, e, first, last) = least(store, at, ends, f, low, from, n) else {
+        let Found::At(p, e, first, last, same) = least(store, at, ends, f, low, from, n) else {
             return Step::End;
         };
-        let held = gather(store, at, ends, f, low, from, n, first, last, p, e);
+        let held = gather(store, at, ends, f, low, from, n, first, last, p, e, same);
         if let Held::Is(act) = held {
             return made(store, p, e, act);
         }

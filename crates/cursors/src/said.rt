@@ -9,6 +9,7 @@ use walk::origins::origin_at;
 ghost use mathlib.Core.Path.{_≡_};
 ghost use Prim.Native.Nat.{_+_};
 ghost use lib.ListN.{getD};
+ghost use Rattle.field.specs.Progress.{If};
 ghost use Rattle.walk.specs.Origins.{OriginAt};
 ghost use Rattle.cursors.specs.declared.said.Said.the-variants.{Change};
 ghost use Rattle.cursors.specs.Cursor.{Filled, keyAt, originAct, Says};
@@ -54,15 +55,14 @@ fn said_first(store: &[u8], p: usize, e: usize) -> Said
     Said::Change(act, x.next)
 }
 
-// What the run from p up to e says of the first key of the run from q up to g.
-pub(crate) fn ask(store: &[u8], p: usize, e: usize, q: usize, g: usize) -> Said
-    requires { ⌜ Filled (now store) p e × Filled (now store) q g ⌝ }
+// What the run from p up to e says of the first key of the run from q up to g; if it is known to be the same as its own,
+// nothing is compared.
+pub(crate) fn ask(store: &[u8], p: usize, e: usize, q: usize, g: usize, same: bool) -> Said
+    requires { ⌜ Filled (now store) p e × (Filled (now store) q g × If same (keyAt (now store) p e ≡ keyAt (now store) q g)) ⌝ }
     ensures { λ r. ⌜ Says (now (store .entry)) p e (keyAt (now (store .entry)) q g) r ⌝ }
 {
-    if p == q {
-        if e == g {
-            return said_first(store, p, e);
-        }
+    if same {
+        return said_first(store, p, e);
     }
     match rank(store, q, g, p, e) {
         Ordering::Less => Said::Nothing,

@@ -6,10 +6,10 @@ use Rattle.cursors.proofs.gather.gather.Statement.{statement}
 use Rattle.cursors.proofs.gather.gather.Tie as tie
 
 abbrev Inv-loop : tie.InvT-loop
-Inv-loop store at₀ ends f₀ low from n first last q g held₀ r₀ at f held r = Gathering store at₀ ends f₀ low from n first last q g at f held r
+Inv-loop store at₀ ends f₀ low from n first last q g same held₀ r₀ at f held r = Gathering store at₀ ends f₀ low from n first last q g same at f held r
 
 abbrev μ-loop : tie.MeasureT-loop
-μ-loop store at₀ ends f₀ low from n first last q g held₀ r₀ at f held r = last + 1 - r
+μ-loop store at₀ ends f₀ low from n first last q g same held₀ r₀ at f held r = last + 1 - r
 
 loop-holds : tie.Need-loop-holds Inv-loop μ-loop
 loop-holds c = search (gathering, needs)

@@ -6,10 +6,10 @@ use Rattle.cursors.proofs.least.least.Statement.{statement}
 use Rattle.cursors.proofs.least.least.Tie as tie
 
 abbrev Inv-loop : tie.InvT-loop
-Inv-loop store at ends f low from n first best₀ last₀ best last = Leasting store at ends from n f low first best last
+Inv-loop store at ends f low from n first best₀ last₀ same₀ best last same = Leasting store at ends from n f low first best last same
 
 abbrev μ-loop : tie.MeasureT-loop
-μ-loop store at ends f low from n first best₀ last₀ best last = n - last
+μ-loop store at ends f low from n first best₀ last₀ same₀ best last same = n - last
 
 returns : tie.Need-returns Inv-loop μ-loop
 returns c = search (leasting, needs)
@@ -26,17 +26,17 @@ add-find c = search (leasting, needs)
 find-requires-2 : tie.Need-find-requires-2 Inv-loop μ-loop
 find-requires-2 c κs = search (leasting, needs)
 
-mul-t15 : tie.Need-mul-t15 Inv-loop μ-loop
-mul-t15 c = search (leasting, needs)
+mul-t17 : tie.Need-mul-t17 Inv-loop μ-loop
+mul-t17 c = search (leasting, needs)
 
-element-copy-out-t18 : tie.Need-element-copy-out-t18 Inv-loop μ-loop
-element-copy-out-t18 c = search (leasting, needs)
+element-copy-out-t20 : tie.Need-element-copy-out-t20 Inv-loop μ-loop
+element-copy-out-t20 c = search (leasting, needs)
 
-mul-t19 : tie.Need-mul-t19 Inv-loop μ-loop
-mul-t19 c = search (leasting, needs)
+mul-t21 : tie.Need-mul-t21 Inv-loop μ-loop
+mul-t21 c = search (leasting, needs)
 
-element-copy-out-t22 : tie.Need-element-copy-out-t22 Inv-loop μ-loop
-element-copy-out-t22 c = search (leasting, needs)
+element-copy-out-t24 : tie.Need-element-copy-out-t24 Inv-loop μ-loop
+element-copy-out-t24 c = search (leasting, needs)
 
 returns-2 : tie.Need-returns-2 Inv-loop μ-loop
 returns-2 c = search (leasting, needs)
@@ -61,10 +61,10 @@ least-spec =
     loop-holds
     add-find
     find-requires-2
-    mul-t15
-    element-copy-out-t18
-    mul-t19
-    element-copy-out-t22
+    mul-t17
+    element-copy-out-t20
+    mul-t21
+    element-copy-out-t24
     returns-2
     lower-run-requires
     loop-less
