@@ -26,7 +26,7 @@ use Rattle.cursors.specs.declared.said.Said.{Said}
 use Rattle.cursors.specs.declared.said.Said.the-variants as said
 use Rattle.cursors.specs.Cursor.{D, run, runsN, runs, Stands, Within, keyAt, Filled, HeldAt, ChangeFits, Says, Gathered}
 use Rattle.item.specs.Front.{frontKey, top}
-use Rattle.cursors.specs.Front.{frontOf, Fronts, Blocks, Finds, Settled, Fronted, lined, line, keyOfRun, Alike, Meets, Advances, Advanced, Takes, Taken}
+use Rattle.cursors.specs.Front.{frontOf, Fronts, Blocks, Finds, Settled, Fronted, lined, line, keyOfRun, Meets, Advances, Advanced, Takes, Taken}
 use Rattle.cursors.proofs.Standing.{runs-cons, runs-nil}
 use Rattle.cursors.proofs.Leasting.{filled-low}
 

@@ -6,7 +6,7 @@ use mathlib.Core.Option.{Option, none, some}
 use mathlib.Core.Bool.{Bool, true}
 use native.Mathlib.Omega.{arith}
 use native.Mathlib.Decide.{decLe}
-use lib.ListN.{length, getD}
+use lib.ListN.{getD}
 use Rattle.order.specs.declared.Ordering.{Ordering}
 use Rattle.order.specs.declared.Ordering.the-variants.{Less, Equal, Greater}
 use Rattle.order.specs.Comparison.{bytes}
@@ -16,11 +16,10 @@ use Rattle.change.specs.Change.{Change}
 use Rattle.field.specs.Run.{AllBytes}
 use Rattle.payload.specs.Content.{Bytes}
 use Rattle.cursors.specs.declared.least.Lower.{Lower}
-use Rattle.cursors.specs.declared.least.Found.{Found}
 use Rattle.cursors.specs.declared.least.Found.the-variants.{Nothing, At}
-use Rattle.cursors.specs.Cursor.{D, run, runsN, runs, Stands, Within, headKey, keyAt, Filled}
+use Rattle.cursors.specs.Cursor.{D, run, runsN, runs, Stands, headKey, keyAt, Filled}
 use Rattle.item.specs.Front.{frontKey, top}
-use Rattle.cursors.specs.Front.{frontOf, HeadBytes, Fronts, Sits, nowhere, on, Blocks, Finds, Fronted, line, Looks, Pair, OneOf, left, right, keyOfRun, Lowers, Tied, Alike, LeastBy, nowhere-left, stands-at}
+use Rattle.cursors.specs.Front.{frontOf, HeadBytes, Fronts, Sits, nowhere, on, Blocks, Finds, line, Looks, Pair, OneOf, left, right, keyOfRun, Lowers, Alike, LeastBy, nowhere-left, stands-at}
 use Rattle.cursors.proofs.Standing.{runs-cons, runs-nil}
 use Rattle.item.proofs.Fronts.{front-less, front-greater}
 use Rattle.cursors.proofs.Eights.{all-under, all-sits}

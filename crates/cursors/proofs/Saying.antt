@@ -1,13 +1,13 @@
 -- Laws of what one run says of a key.
-use Prim.Native.Nat.{ℕ, _+_, _-_, _≤_, _<_}
+use Prim.Native.Nat.{ℕ, _+_, _-_, _≤_}
 use mathlib.Core.Path.{_≡_, refl, sym, ap, _∙_}
-use mathlib.Core.List.{List, [], _∷_}
+use mathlib.Core.List.{[], _∷_}
 use mathlib.Core.Option.{none, some}
 use mathlib.Core.Bool.{Bool, true, false, cond}
 use native.Mathlib.Omega.{arith}
 use borrow.Author.Tests.{eq-eqb, ne-eqb}
 use lib.Dec.{eqb}
-use lib.ListN.{length, getD, take, drop, length-take}
+use lib.ListN.{length, getD, take, length-take}
 use Rattle.order.specs.declared.Ordering.{Ordering}
 use Rattle.order.specs.declared.Ordering.the-variants.{Less, Equal, Greater}
 use Rattle.order.specs.Comparison.{bytes}
@@ -17,7 +17,6 @@ use Rattle.change.specs.Change.{Change, announce, withdraw}
 use Rattle.field.specs.Places.{part, keyIn}
 use Rattle.field.specs.Progress.{If}
 use Rattle.payload.specs.Content.{Bytes}
-use Rattle.item.specs.declared.place.Act.{Act}
 use Rattle.item.specs.declared.place.Act.the-variants.{Announce, Withdraw}
 use Rattle.item.specs.declared.place.Entry.{Entry}
 use Rattle.item.specs.declared.reading.Read.{Read}
@@ -26,7 +25,7 @@ use Rattle.item.specs.Place.{changeIn, ActFits}
 use Rattle.walk.specs.Origins.{originOf, OriginAt}
 use Rattle.cursors.specs.declared.said.Said.{Said}
 use Rattle.cursors.specs.declared.said.Said.the-variants as said
-use Rattle.cursors.specs.Cursor.{D, run, Stands, Heads, headKey, keyAt, Filled, originAct, Says}
+use Rattle.cursors.specs.Cursor.{D, run, Heads, headKey, keyAt, Filled, originAct, Says}
 use Rattle.cursors.proofs.Standing.{head-end, head-is, head-fits}
 
 -- ---- origin_act

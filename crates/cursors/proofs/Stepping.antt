@@ -30,10 +30,10 @@ use Rattle.cursors.specs.declared.least.Found.{Found}
 use Rattle.cursors.specs.declared.least.Found.the-variants as found
 use Rattle.cursors.specs.declared.next.Step.{Step}
 use Rattle.cursors.specs.declared.next.Step.the-variants as step
-use Rattle.cursors.specs.Cursor.{D, runs, leftOf, itemsIn, itemsLeft, Stands, Within, Walks, Heads, keyAt, Filled, Gathered, Made, made, NextIs}
+use Rattle.cursors.specs.Cursor.{D, runs, leftOf, itemsIn, itemsLeft, Within, Walks, Heads, keyAt, Filled, Gathered, Made, made, NextIs}
 use Rattle.cursors.specs.Front.{Lowest, Fronted, line, Looks, LeastIs, LeastBy, nowhere-left, stands-at, Meets}
 use Rattle.cursors.proofs.Standing.{head-end, head-fits}
-use Rattle.cursors.proofs.Ranking.{head-key}
+use Rattle.cursors.proofs.Ranking.{filled-stands, head-key}
 
 -- ---- past their least key the runs have fewer items
 
@@ -177,7 +177,4 @@ module _ (s : Bytes) (p e : ℕ) (i : Filled s p e) (a : Act) (r : Read) (h : He
   pub made-item : (x : Entry) → r ≡ One x → Made s p e a (step.Item (x .key) a)
   made-item x q = made (x .key) (head-fits s p e r h x q .key) (sym (head-key s p e r h x q)) refl
 
-pub made-stands : (s : Bytes) (p e : ℕ) → Filled s p e → Stands s p e
-made-stands s p e i = i .stands
-
-pub ruleset making = (made-stands, made-never, made-item)
+pub ruleset making = (filled-stands, made-never, made-item)

@@ -99,6 +99,7 @@ pub record Pair (s : Bytes) (at ends : List ℕ) (b p : ℕ) : Type 0 where
   pub earlier : Filled s (getD at b 0) (getD ends b 0)
   pub later : Filled s (getD at p 0) (getD ends p 0)
 
+-- r is one of the two
 pub data OneOf (b p r : ℕ) : Type 0 where
   left : r ≡ b → OneOf b p r
   right : r ≡ p → OneOf b p r
@@ -106,7 +107,7 @@ pub data OneOf (b p r : ℕ) : Type 0 where
 abbrev pub keyOfRun : Bytes → List ℕ → List ℕ → ℕ → Bytes
 keyOfRun s at ends r = keyAt s (getD at r 0) (getD ends r 0)
 
--- the run is b or p, whichever stands lower; with `same` it was so before, and they stand at one key
+-- the run is b or p, whichever stands lower; `same` stays only where both stand at one key
 pub record Lowers (s : Bytes) (at ends : List ℕ) (b p : ℕ) (same : Bool) (r : Lower) : Type 0 where
   pub one : OneOf b p (r .run)
   pub key : keyOfRun s at ends (r .run) ≡ lowerOf (bytes (keyOfRun s at ends b) (keyOfRun s at ends p)) (keyOfRun s at ends b) (keyOfRun s at ends p)
@@ -133,7 +134,7 @@ pub record LeastIs (s : Bytes) (at ends : List ℕ) (from n : ℕ) (f : List ℕ
   pub some-left : low < top
   pub tied : Tied f low from n first last
 
--- closed: a search does not look into it
+-- what was found, closed: a search does not look into it
 pub data LeastBy (s : Bytes) (at ends : List ℕ) (from n : ℕ) (f : List ℕ) (low : ℕ) (r : Found) : Type 0 where
   nowhere-left : r ≡ found.Nothing → least bytes (runs s at ends from n) ≡ none → LeastBy s at ends from n f low r
   stands-at : (p e first last : ℕ) (same : Bool) → r ≡ found.At p e first last same → LeastIs s at ends from n f low p e first last same → LeastBy s at ends from n f low r
