@@ -1,5 +1,5 @@
 -- Laws of 64 numbers with the lowest of each eight.
-use Prim.Native.Nat.{ℕ, suc, _+_, _*_, _-_, _/_, _%_, _≤_, _<_, min}
+use Prim.Native.Nat.{ℕ, suc, _+_, _*_, _-_, _/_, _≤_, _<_, min}
 use mathlib.Core.Path.{_≡_, refl, sym, _∙_}
 use mathlib.Core.List.{List}
 use native.Mathlib.Omega.{arith}
@@ -7,7 +7,7 @@ use native.Mathlib.Decide.{ℕ-discrete, decLe}
 use lib.ListN.{length, getD, set, length-set}
 use lib.Seq.{getD-set-same, getD-set-other}
 use Rattle.item.specs.Front.{top}
-use Rattle.cursors.specs.Front.{Sits, nowhere, on, Lowest, Blocks, Finds, Settled}
+use Rattle.cursors.specs.Front.{Sits, nowhere, on, Lowest, Blocks, Finds, Skips, Settled}
 
 -- ---- of_two, of_four, of_eight
 
@@ -51,38 +51,21 @@ eight-lowest f a x y r l m e =
     let z : a + 4 + 4 ≡ a + 8 = omega arith in
     join f a (a + 4) (a + 8) x y r (omega arith) (omega arith) l (rw z at m) e
 
--- ---- find
+-- ---- find_singly
 
-pub record Finding (f : List ℕ) (low from n r : ℕ) : Type 0 where
+pub record Single (f : List ℕ) (low from n r : ℕ) : Type 0 where
   pub long : length f ≡ 72
-  pub blocks : Blocks f
   pub few : n ≤ 64
   pub ahead : from ≤ r
   pub other : (j : ℕ) → from ≤ j → j < r → j < n → getD f j 0 ≡ low → ⊥
 
-pub find-start : (f : List ℕ) (low from n : ℕ) → Blocks f → n ≤ 64 → Finding f low from n from
-find-start f low from n b w = record { long = b .long; blocks = b; few = w; ahead = omega arith; other = λ j x y z. absurd (omega arith) }
+pub single-start : (f : List ℕ) (low from n : ℕ) → length f ≡ 72 → n ≤ 64 → Single f low from n from
+single-start f low from n b w = record { long = b; few = w; ahead = omega arith; other = λ j x y z. absurd (omega arith) }
 
-module _ (f : List ℕ) (low from n r : ℕ) (i : Finding f low from n r) where
-  pub find-skip : r < n → r % 8 ≡ 0 → low < getD f (64 + r / 8) 0 → Finding f low from n (r + 8)
-  find-skip h e l = record {
+module _ (f : List ℕ) (low from n r : ℕ) (i : Single f low from n r) where
+  pub single-on : r < n → (getD f r 0 ≡ low → ⊥) → Single f low from n (r + 1)
+  single-on h e = record {
     long = i .long;
-    blocks = i .blocks;
-    few = i .few;
-    ahead = omega (arith, i .ahead);
-    other = λ j a b c d. other j a b c d (decLe r j);
-  }
-    where
-      other : (j : ℕ) → from ≤ j → j < r + 8 → j < n → getD f j 0 ≡ low → Dec (r ≤ j) → ⊥
-      other j a b c d (yes q) =
-          let z : 8 * (r / 8) ≡ r = omega (arith, e) in
-          omega (arith, l, d, i .blocks .lows (r / 8) (omega (arith, i .few)) .under j (omega (arith, z)) (omega (arith, z)))
-      other j a b c d (no q) = i .other j a (omega arith) c d
-
-  pub find-on : r < n → (getD f r 0 ≡ low → ⊥) → Finding f low from n (r + 1)
-  find-on h e = record {
-    long = i .long;
-    blocks = i .blocks;
     few = i .few;
     ahead = omega (arith, i .ahead);
     other = λ j a b c d. other j a b c d (ℕ-discrete j r);
@@ -92,13 +75,103 @@ module _ (f : List ℕ) (low from n r : ℕ) (i : Finding f low from n r) where
       other j a b c d (yes q) = e (rw q at d)
       other j a b c d (no q) = i .other j a (omega arith) c d
 
-  pub find-here : getD f r 0 ≡ low → Finds f low from n r
-  find-here e = record { other = i .other; found = λ h. e; ahead = i .ahead }
+  pub single-here : getD f r 0 ≡ low → Finds f low from n r
+  single-here e = record { other = i .other; found = λ h. e; ahead = i .ahead }
+
+  pub single-done : n ≤ r → Finds f low from n r
+  single-done h = record { other = i .other; found = λ k. absurd (omega arith); ahead = i .ahead }
+
+pub ruleset finding-singly = (single-start, single-on, single-here, single-done)
+
+-- ---- find_near
+
+module _ (f : List ℕ) (low r : ℕ) (bs : Blocks f) (h : r < 64) where
+  pub near-long : length f ≡ 72
+  near-long = bs .long
+
+  pub near-end : r / 8 * 8 + 8 ≤ 64
+  near-end = omega arith
+
+  pub near-none : low < getD f (64 + r / 8) 0 → Finds f low r (r / 8 * 8 + 8) (r / 8 * 8 + 8)
+  near-none l = record {
+    other = λ j a b c d. omega (arith, l, d, bs .lows (r / 8) (omega arith) .under j (omega arith) (omega arith));
+    found = λ k. absurd (omega arith);
+    ahead = omega arith;
+  }
+
+pub ruleset finding-near = (near-long, near-end, near-none)
+
+-- ---- skip
+
+pub record Skipping (f : List ℕ) (low from b : ℕ) : Type 0 where
+  pub long : length f ≡ 72
+  pub skips : Skips f low from b
+
+pub skip-start : (f : List ℕ) (low from : ℕ) → length f ≡ 72 → from ≤ 8 → Skipping f low from from
+skip-start f low from l h = record { long = l; skips = record { above = λ j a b. absurd (omega arith); ahead = omega arith; small = h } }
+
+module _ (f : List ℕ) (low from b : ℕ) (i : Skipping f low from b) where
+  pub skip-on : b < 8 → low < getD f (64 + b) 0 → Skipping f low from (b + 1)
+  skip-on h l = record {
+    long = i .long;
+    skips = record { above = λ j x y. above j x y (ℕ-discrete j b); ahead = omega (arith, i .skips .ahead); small = omega arith };
+  }
+    where
+      above : (j : ℕ) → from ≤ j → j < b + 1 → Dec (j ≡ b) → low < getD f (64 + j) 0
+      above j x y (yes q) = rw q l
+      above j x y (no q) = i .skips .above j x (omega arith)
+
+  pub skip-done : Skips f low from b
+  skip-done = i .skips
+
+pub ruleset skipping = (skip-start, skip-on, skip-done)
+
+-- ---- find
+
+pub record Finding (f : List ℕ) (low from n r : ℕ) : Type 0 where
+  pub blocks : Blocks f
+  pub few : n ≤ 64
+  pub ahead : from ≤ r
+  pub other : (j : ℕ) → from ≤ j → j < r → j < n → getD f j 0 ≡ low → ⊥
+
+pub find-start : (f : List ℕ) (low from n : ℕ) → Blocks f → n ≤ 64 → Finding f low from n from
+find-start f low from n b w = record { blocks = b; few = w; ahead = omega arith; other = λ j x y z. absurd (omega arith) }
+
+module _ (f : List ℕ) (low from n r : ℕ) (i : Finding f low from n r) where
+  pub find-blocks : Blocks f
+  find-blocks = i .blocks
+
+  pub find-long : length f ≡ 72
+  find-long = i .blocks .long
+
+  module _ (p : ℕ) (t : Finds f low r (r / 8 * 8 + 8) p) where
+    pub find-here : p < r / 8 * 8 + 8 → Finds f low from n p
+    find-here h = record { other = λ j a b c d. other j a b c d (decLe r j); found = λ k. t .found h; ahead = omega (arith, t .ahead, i .ahead) }
+      where
+        other : (j : ℕ) → from ≤ j → j < p → j < n → getD f j 0 ≡ low → Dec (r ≤ j) → ⊥
+        other j a b c d (yes q) = t .other j q b (omega arith) d
+        other j a b c d (no q) = i .other j a (omega arith) c d
+
+    pub find-on : r < n → r / 8 * 8 + 8 ≤ p → (b : ℕ) → Skips f low (r / 8 + 1) b → Finding f low from n (b * 8)
+    find-on h l b k = record {
+      blocks = i .blocks;
+      few = i .few;
+      ahead = omega (arith, i .ahead, k .ahead);
+      other = λ j x y z d. other j x y z d (decLe r j) (decLe (r / 8 * 8 + 8) j);
+    }
+      where
+        other : (j : ℕ) → from ≤ j → j < b * 8 → j < n → getD f j 0 ≡ low → Dec (r ≤ j) → Dec (r / 8 * 8 + 8 ≤ j) → ⊥
+        other j x y z d (no q) e = i .other j x (omega arith) z d
+        other j x y z d (yes q) (no e) = t .other j q (omega arith) (omega arith) d
+        other j x y z d (yes q) (yes e) =
+            let w = k .above (j / 8) (omega arith) (omega arith) in
+            let u = i .blocks .lows (j / 8) (omega (arith, i .few)) .under j (omega arith) (omega arith) in
+            omega (arith, w, u, d)
 
   pub find-done : n ≤ r → Finds f low from n r
   find-done h = record { other = i .other; found = λ k. absurd (omega arith); ahead = i .ahead }
 
-pub ruleset finding = (find-start, find-skip, find-on, find-here, find-done)
+pub ruleset finding = (find-start, find-blocks, find-long, find-here, find-on, find-done)
 
 -- ---- settle
 

@@ -32,7 +32,7 @@ use Rattle.item.specs.Front.{packs, frontKey, frontIn, top}
 use Rattle.item.proofs.Heres.{low-kind, here, cell, next, said, front-is, octets}
 use Rattle.item.proofs.Fronts.{drop-bytes, take-bytes, cons-bytes}
 use Rattle.cursors.specs.Front.{Fronts}
-use Rattle.cursors.proofs.Lowering.{head-end, head-is, head-fits}
+use Rattle.cursors.proofs.Standing.{head-end, head-is, head-fits}
 
 -- ---- digit
 

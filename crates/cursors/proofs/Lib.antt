@@ -1,5 +1,6 @@
 pub mod Standing
-pub mod Lowering
+pub mod Ranking
+pub mod Saying
 pub mod Fronting
 pub mod Eights
 pub mod Lining

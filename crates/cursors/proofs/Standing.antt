@@ -1,9 +1,10 @@
 -- Laws of one cursor: what a run up to e reads as, by places of the store itself.
-use Prim.Native.Nat.{ℕ, _-_, _≤_}
+use Prim.Native.Nat.{ℕ, suc, _+_, _-_, _≤_, _<_}
 use mathlib.Core.Path.{_≡_, ap, _∙_}
-use mathlib.Core.List.{_∷_}
+use mathlib.Core.List.{List, [], _∷_}
 use native.Mathlib.Omega.{arith}
-use lib.ListN.{length, take, drop, length-take}
+use native.Mathlib.Numerals.{add-one}
+use lib.ListN.{length, getD, take, drop, length-take}
 use lib.Seq.{take-take, length-take-le}
 use Rattle.number.specs.Bytes.{part}
 use Rattle.field.specs.declared.key.Key.{Key}
@@ -12,13 +13,14 @@ use Rattle.payload.specs.Content.{Bytes}
 use Rattle.item.specs.declared.place.Part.{Part}
 use Rattle.item.specs.declared.place.Act.{Act}
 use Rattle.item.specs.declared.place.Act.the-variants.{Announce, Withdraw, Update}
+use Rattle.item.specs.declared.place.Entry.{Entry}
 use Rattle.item.specs.declared.reading.Reading.the-variants.{Changes}
 use Rattle.item.specs.declared.reading.Read.{Read}
 use Rattle.item.specs.declared.reading.Read.the-variants.{End, One}
 use Rattle.item.specs.Place.{partIn, changeIn, itemIn, PartFits, ActFits, KeyIn}
 use Rattle.item.specs.Reading.{Reads}
 use Rattle.item.proofs.Places.{drop-take}
-use Rattle.cursors.specs.Cursor.{run, Stands, Heads}
+use Rattle.cursors.specs.Cursor.{run, runsN, Stands, EntryFits, Heads}
 
 module _ (s : Bytes) (e : ℕ) where
   -- a part that ends at or before e
@@ -76,3 +78,27 @@ module _ (s : Bytes) (p e : ℕ) (st : Stands s p e) where
       }
 
 pub ruleset heading = (stands-long, heads-of)
+
+-- ---- what a cursor stands at
+
+module _ (s : Bytes) (p e : ℕ) (r : Read) (h : Heads s p e r) where
+  pub head-end : r ≡ End → run s p e ≡ []
+  head-end q = rw q at (h .is)
+
+  module _ (x : Entry) (q : r ≡ One x) where
+    pub head-is : run s p e ≡ itemIn s s (x .key) (x .act) ∷ run s (x .next) e
+    head-is = rw q at (h .is)
+
+    pub head-fits : EntryFits s e x
+    head-fits = rw q at (h .fits)
+
+-- ---- the runs, one by one
+
+module _ (s : Bytes) (at ends : List ℕ) where
+  pub runs-cons : (r n : ℕ) → r < n → runsN s at ends r (n - r) ≡ run s (getD at r 0) (getD ends r 0) ∷ runsN s at ends (r + 1) (n - (r + 1))
+  unfolding runsN
+  runs-cons r n h = let d : n - r ≡ suc (n - (r + 1)) = omega arith in rw (d, add-one)
+
+  pub runs-nil : (r n : ℕ) → n ≤ r → runsN s at ends r (n - r) ≡ []
+  unfolding runsN
+  runs-nil r n h = let d : n - r ≡ 0 = omega arith in rw d

@@ -3,6 +3,7 @@ use Prim.Native.Nat.{ℕ, suc, _≤_, _<_}
 use mathlib.Core.Path.{_≡_, refl, sym, _∙_}
 use mathlib.Core.List.{List, [], _∷_, map, foldl}
 use mathlib.Core.Option.{Option, none, some}
+use mathlib.Core.Bool.{Bool}
 use mathlib.Core.Logic.{_⊎_, inl, inr, ⊎-elim}
 use native.Mathlib.Omega.{arith}
 use lib.ListN.{length}
@@ -17,18 +18,22 @@ use Rattle.order.proofs.Map.{none≢some}
 use Rattle.order.proofs.Many.{pasts-sorted, least-step, least-none}
 use Rattle.change.specs.Change.{Change}
 use Rattle.change.specs.Merge.{mergeAt}
-use Rattle.field.specs.declared.key.Key.{Key}
-use Rattle.field.specs.Places.{keyIn}
 use Rattle.payload.specs.Content.{Bytes}
 use Rattle.item.specs.declared.place.Act.{Act}
+use Rattle.item.specs.declared.place.Entry.{Entry}
 use Rattle.item.specs.declared.place.Held.{Held}
 use Rattle.item.specs.declared.place.Held.the-variants.{Nothing, Is}
-use Rattle.item.specs.Place.{heldIn, KeyIn}
+use Rattle.item.specs.declared.reading.Read.{Read}
+use Rattle.item.specs.declared.reading.Read.the-variants.{End, One}
+use Rattle.item.specs.Place.{heldIn}
 use Rattle.cursors.specs.declared.least.Found.{Found}
 use Rattle.cursors.specs.declared.least.Found.the-variants as found
+use Rattle.cursors.specs.declared.next.Step.{Step}
 use Rattle.cursors.specs.declared.next.Step.the-variants as step
-use Rattle.cursors.specs.Cursor.{D, runs, leftOf, itemsIn, itemsLeft, Within, Walks, Least, Gathered, NextIs}
-use Rattle.cursors.specs.Front.{Lowest, Fronted, line, Looks, LeastBy, Meets}
+use Rattle.cursors.specs.Cursor.{D, runs, leftOf, itemsIn, itemsLeft, Within, Walks, Heads, keyAt, Filled, Gathered, Made, made, NextIs}
+use Rattle.cursors.specs.Front.{Lowest, Fronted, line, Looks, LeastIs, LeastBy, nowhere-left, stands-at, Meets}
+use Rattle.cursors.proofs.Standing.{head-end, head-fits}
+use Rattle.cursors.proofs.Ranking.{filled-stands, head-key}
 
 -- ---- past their least key the runs have fewer items
 
@@ -73,6 +78,9 @@ least-falls k ds e = ⊎-elim (λ h. absurd (none≢some {o = none} refl h)) (λ
 
 -- ---- next: what is left is what there was
 
+nothing≢at : (p e first last : ℕ) (same : Bool) → found.Nothing ≡ found.At p e first last same → ⊥
+nothing≢at p e first last same q = let z : _≡_ {A = ℕ} 0 1 = cc in omega arith
+
 pub record Stepping (s : Bytes) (at₀ ends : List ℕ) (f₀ : List ℕ) (from n : ℕ) (at f : List ℕ) : Type 0 where
   pub fronted : Fronted s at ends from n f
   pub long : length f ≡ length f₀
@@ -99,37 +107,45 @@ module _ (s : Bytes) (at₀ ends f₀ : List ℕ) (from n : ℕ) (at f : List �
   pub step-looks : (low : ℕ) → Lowest f 64 72 low → Looks s at ends from n f low
   step-looks low l = record { within = i .walks .within; fronted = i .fronted; lowest = l }
 
-  module _ (low : ℕ) (b : Found) (lb : LeastBy s at ends from n low b) where
-    l : Least s at ends from n b
-    l = lb .least
-
+  module _ (low : ℕ) (b : Found) (lb : LeastBy s at ends from n f low b) where
     pub step-end : b ≡ found.Nothing → NextIs s at₀ at ends from n step.End
-    step-end e = record {
-      walks = i .walks;
-      fits = tt;
-      is = i .left ∙ least-none strings (mergeAt bytes) refl (runs s at ends from n) (sym (rw e at (l .key)));
-    }
+    step-end e = go lb
+      where
+        go : LeastBy s at ends from n f low b → NextIs s at₀ at ends from n step.End
+        go (nowhere-left q z) = record { walks = i .walks; fits = tt; is = i .left ∙ least-none strings (mergeAt bytes) refl (runs s at ends from n) z }
+        go (stands-at p t first last same q z) = absurd (nothing≢at p t first last same (sym e ∙ q))
 
-    module _ (k : Key) (e : b ≡ found.At k) where
-      pub step-meets : Meets s at ends from n f low k
-      step-meets = record { key = rw e at (lb .least .inside .fits); within = i .walks .within; fronted = i .fronted; front = sym (rw e at (lb .front)) }
+    module _ (p t first last : ℕ) (same : Bool) (e : b ≡ found.At p t first last same) where
+      l : LeastIs s at ends from n f low p t first last same
+      l = go lb
+        where
+          go : LeastBy s at ends from n f low b → LeastIs s at ends from n f low p t first last same
+          go (nowhere-left q z) = absurd (nothing≢at p t first last same (sym q ∙ e))
+          go (stands-at p′ t′ first′ last′ same′ q z) =
+              let c = sym q ∙ e in
+              let c1 : p′ ≡ p = cc in
+              let c2 : t′ ≡ t = cc in
+              let c3 : first′ ≡ first = cc in
+              let c4 : last′ ≡ last = cc in
+              let c5 : same′ ≡ same = cc in
+              rw (← c1, ← c2, ← c3, ← c4, ← c5) z
 
-      pub step-key : KeyIn s k
-      step-key = rw e at (l .inside .fits)
+      pub step-meets : Meets s at ends from n f low first last p t same
+      step-meets = record { alike = l .alike; key = l .filled; within = i .walks .within; fronted = i .fronted; front = l .front; some-left = l .some-left; tied = l .tied }
 
-      key-is : least bytes (runs s at ends from n) ≡ some (keyIn s k)
-      key-is = sym (rw e at (l .key))
+      pub step-filled : Filled s p t
+      step-filled = l .filled
 
-      module _ (at′ : List ℕ) (h : Held) (g : Gathered s at at′ ends from n (keyIn s k) h) where
+      module _ (at′ : List ℕ) (h : Held) (g : Gathered s at at′ ends from n (keyAt s p t) h) where
         walks′ : Walks s at′ ends from n
-        walks′ = record { within = g .within; up = rw (g .gone) (pasts-sorted strings (keyIn s k) (runs s at ends from n) (i .walks .up)) }
+        walks′ = record { within = g .within; up = rw (g .gone) (pasts-sorted strings (keyAt s p t) (runs s at ends from n) (i .walks .up)) }
 
         pub step-less : itemsLeft s at′ ends from n < itemsLeft s at ends from n
-        step-less = rw (g .gone) (least-falls (keyIn s k) (runs s at ends from n) key-is)
+        step-less = rw (g .gone) (least-falls (keyAt s p t) (runs s at ends from n) (l .key))
 
-        emits : leftOf s at₀ ends from n ≡ emit (keyIn s k) (heldIn s s h) (leftOf s at′ ends from n)
+        emits : leftOf s at₀ ends from n ≡ emit (keyAt s p t) (heldIn s s h) (leftOf s at′ ends from n)
         emits =
-            i .left ∙ least-step strings (mergeAt bytes) refl (keyIn s k) (runs s at ends from n) key-is (i .walks .up)
+            i .left ∙ least-step strings (mergeAt bytes) refl (keyAt s p t) (runs s at ends from n) (l .key) (i .walks .up)
             ∙ rw (g .holds .is, g .gone)
 
         pub step-again : h ≡ Nothing → (f′ : List ℕ) → Fronted s at′ ends from n f′ → Stepping s at₀ ends f₀ from n at′ f′
@@ -143,11 +159,22 @@ module _ (s : Bytes) (at₀ ends f₀ : List ℕ) (from n : ℕ) (at f : List �
           fewer = omega (arith, step-less, i .fewer);
         }
 
-        pub step-item : (a : Act) → h ≡ Is a → NextIs s at₀ at′ ends from n (step.Item k a)
-        step-item a q = record {
+        pub step-item : (a : Act) → h ≡ Is a → (r : Step) → Made s p t a r → NextIs s at₀ at′ ends from n r
+        step-item a q r (made k u z d) = rw d (record {
           walks = walks′;
-          fits = (record { key = step-key; act = rw q at (g .holds .fits) }, omega (arith, step-less, i .fewer));
-          is = rw q at emits;
-        }
+          fits = (record { key = u; act = rw q at (g .holds .fits) }, omega (arith, step-less, i .fewer));
+          is = rw z (rw q at emits);
+        })
 
-pub ruleset stepping = (step-start, step-fronted, step-within, step-looks, step-meets, step-end, step-key, step-less, step-again, step-item)
+pub ruleset stepping = (step-start, step-fronted, step-within, step-looks, step-meets, step-filled, step-end, step-less, step-again, step-item)
+
+-- ---- made
+
+module _ (s : Bytes) (p e : ℕ) (i : Filled s p e) (a : Act) (r : Read) (h : Heads s p e r) where
+  pub made-never : r ≡ End → Made s p e a step.End
+  made-never q = absurd (i .some (head-end s p e r h q))
+
+  pub made-item : (x : Entry) → r ≡ One x → Made s p e a (step.Item (x .key) a)
+  made-item x q = made (x .key) (head-fits s p e r h x q .key) (sym (head-key s p e r h x q)) refl
+
+pub ruleset making = (filled-stands, made-never, made-item)

@@ -3,10 +3,12 @@ use Prim.Native.Nat.{ℕ, zero, suc, _+_, _-_, _≤_, _<_}
 use mathlib.Core.Path.{_≡_}
 use mathlib.Core.List.{List, [], _∷_, map, foldl}
 use mathlib.Core.Option.{Option, none, some}
+use mathlib.Core.Bool.{cond}
+use lib.Dec.{eqb}
 use lib.ListN.{length, getD, take, drop}
 use Rattle.order.specs.Comparison.{bytes}
 use Rattle.order.specs.Map.{All, Sorted}
-use Rattle.order.specs.Many.{lower, least, first, past}
+use Rattle.order.specs.Many.{first, past}
 use Rattle.change.specs.Change.{Change}
 use Rattle.change.specs.Difference as change
 use Rattle.change.specs.Merge.{mergeAt, mergeAll}
@@ -17,6 +19,7 @@ use Rattle.payload.specs.Content.{Bytes}
 use Rattle.payload.specs.Payload.{changes}
 use Rattle.payload.specs.Limit.{limit}
 use Rattle.item.specs.declared.place.Act.{Act}
+use Rattle.item.specs.declared.place.Act.the-variants.{Announce, Withdraw}
 use Rattle.item.specs.declared.place.Held.{Held}
 use Rattle.item.specs.declared.place.Entry.{Entry}
 use Rattle.item.specs.declared.reading.Reading.the-variants.{Changes}
@@ -24,10 +27,8 @@ use Rattle.item.specs.declared.reading.Read.{Read}
 use Rattle.item.specs.declared.reading.Read.the-variants as read
 use Rattle.item.specs.Place.{itemIn, changeIn, HeldFits, ActFits, KeyIn, Holds}
 use Rattle.item.specs.Reading.{Ready}
-use Rattle.cursors.specs.declared.least.Found.{Found}
-use Rattle.cursors.specs.declared.least.Found.the-variants as found
-use Rattle.cursors.specs.declared.gather.Said.{Said}
-use Rattle.cursors.specs.declared.gather.Said.the-variants as said
+use Rattle.cursors.specs.declared.said.Said.{Said}
+use Rattle.cursors.specs.declared.said.Said.the-variants as said
 use Rattle.cursors.specs.declared.next.Step.{Step}
 use Rattle.cursors.specs.declared.next.Step.the-variants as step
 
@@ -101,33 +102,20 @@ pub record Heads (s : Bytes) (p e : ℕ) (r : Read) : Type 0 where
   pub fits : HeadFits s e r
   pub is : run s p e ≡ headIs s e r
 
--- ---- the least key
+-- ---- the first key of a run
 
-abbrev pub keyFound : Bytes → Found → Option Bytes
-keyFound s found.Nothing = none
-keyFound s (found.At k) = some (keyIn s k)
+-- of an empty one no bytes
+abbrev pub headKey : D → Bytes
+headKey [] = []
+headKey (x ∷ d) = x .key
 
-abbrev pub FoundFits : Bytes → Found → Type 0
-FoundFits s found.Nothing = Unit {0}
-FoundFits s (found.At k) = KeyIn s k
+abbrev pub keyAt : Bytes → ℕ → ℕ → Bytes
+keyAt s p e = headKey (run s p e)
 
-pub record FoundIn (s : Bytes) (f : Found) : Type 0 where
-  pub fits : FoundFits s f
-
--- what was found last, if anything, else what was found before
-abbrev pub latest : Option Bytes → Option Bytes → Option Bytes
-latest before none = before
-latest before (some k) = some k
-
--- a run's first key if it is below what was found: the lower of the two is what was found last
-pub record Below (s : Bytes) (best : Found) (p e : ℕ) (r : Found) : Type 0 where
-  pub inside : FoundIn s r
-  pub key : latest (keyFound s best) (keyFound s r) ≡ lower bytes (keyFound s best) (run s p e)
-
--- the least of the first keys of all runs
-pub record Least (s : Bytes) (at ends : List ℕ) (from n : ℕ) (r : Found) : Type 0 where
-  pub inside : FoundIn s r
-  pub key : keyFound s r ≡ least bytes (runs s at ends from n)
+-- the run from p up to e has an item
+pub record Filled (s : Bytes) (p e : ℕ) : Type 0 where
+  pub stands : Stands s p e
+  pub some : run s p e ≡ [] → ⊥
 
 -- ---- the changes at a key
 
@@ -151,6 +139,10 @@ abbrev pub behind : ℕ → Said → ℕ
 behind p said.Nothing = p
 behind p (said.Change a next) = next
 
+-- the change of an origin with this tag, whose field ends at `to`
+abbrev pub originAct : ℕ → ℕ → Act
+originAct tag to = cond (eqb tag 0x11) (Announce (record { from = to; to = to })) (Withdraw (record { from = to; to = to }))
+
 -- one run: its change at k, if it has one, and the run past k
 pub record Says (s : Bytes) (p e : ℕ) (k : Bytes) (r : Said) : Type 0 where
   pub fits : SaidFits s e r
@@ -169,6 +161,10 @@ pub record Gathered (s : Bytes) (at₀ at ends : List ℕ) (from n : ℕ) (k : B
 pub record ItemFits (s : Bytes) (k : Key) (a : Act) : Type 0 where
   pub key : KeyIn s k
   pub act : ActFits s s a
+
+-- a change at the first key of the run from p up to e
+pub data Made (s : Bytes) (p e : ℕ) (a : Act) (r : Step) : Type 0 where
+  made : (k : Key) → KeyIn s k → keyIn s k ≡ keyAt s p e → r ≡ step.Item k a → Made s p e a r
 
 abbrev pub yields : Bytes → Step → D → D
 yields s step.End d = []

@@ -1,30 +1,20 @@
 // The changes of all runs at one key, merged: earliest first.
-use crate::cursor::item_at;
 use crate::front::front_at;
 use crate::lows::find;
 use crate::lows::settle;
-use field::key::Key;
-use field::key::key_compare;
+use crate::said::Said;
+use crate::said::ask;
 use item::place::Act;
 use item::place::Held;
-use item::reading::Read;
 use item::table::merged;
-use order::Ordering;
 ghost use mathlib.Core.Path.{_≡_};
 ghost use mathlib.Core.Option.{some};
 ghost use lib.ListN.{set};
 ghost use Rattle.order.specs.Comparison.{bytes};
 ghost use Rattle.change.specs.Merge.{mergeAt};
-ghost use Rattle.field.specs.Places.{keyIn};
-ghost use Rattle.item.specs.Place.{KeyIn, ActFits, Holds, heldIn, changeIn};
-ghost use Rattle.cursors.specs.Cursor.{Stands, HeldAt, Says, Gathered};
-ghost use Rattle.cursors.specs.Front.{Meets, Fronted, OnePlace, Advances, Advanced, Takes, Taken};
-
-// What a run says of a key: its change there, and where the run goes on.
-pub enum Said {
-    Nothing,
-    Change(Act, usize),
-}
+ghost use Rattle.item.specs.Place.{ActFits, Holds, heldIn, changeIn};
+ghost use Rattle.cursors.specs.Cursor.{HeldAt, keyAt, Gathered};
+ghost use Rattle.cursors.specs.Front.{Meets, Fronted, Advances, Advanced, Takes, Taken};
 
 // What is held, and then a later change.
 fn join(store: &[u8], held: Held, act: Act) -> Held
@@ -34,42 +24,6 @@ fn join(store: &[u8], held: Held, act: Act) -> Held
     match held {
         Held::Nothing => Held::Is(act),
         Held::Is(earlier) => merged(store, earlier, store, act),
-    }
-}
-
-// Whether two keys are one place.
-fn is_place(k: Key, key: Key) -> bool
-    ensures { λ r. ⌜ OnePlace k key r ⌝ }
-{
-    if k.from != key.from {
-        return false;
-    }
-    if k.to != key.to {
-        return false;
-    }
-    k.kind == key.kind
-}
-
-// What the run from p up to e says of key k.
-fn ask(store: &[u8], p: usize, e: usize, k: Key) -> Said
-    requires { ⌜ Stands (now store) p e × KeyIn (now store) k ⌝ }
-    ensures { λ r. ⌜ Says (now (store .entry)) p e (keyIn (now (store .entry)) k) r ⌝ }
-{
-    let Read::One(x) = item_at(store, p, e) else {
-        return Said::Nothing;
-    };
-    let key = x.key;
-    if is_place(k, key) {
-        let act = x.act;
-        return Said::Change(act, x.next);
-    }
-    match key_compare(store, k, store, key) {
-        Ordering::Less => Said::Nothing,
-        Ordering::Greater => Said::Nothing,
-        Ordering::Equal => {
-            let act = x.act;
-            Said::Change(act, x.next)
-        }
     }
 }
 
@@ -90,27 +44,32 @@ fn advance(
     at[p] = next;
 }
 
-// What is held, and then what run p says of key k; if it stands there it goes past it.
+// What is held, and then what run p says of the first key of the run from q up to g; if it stands there it goes past it.
+// `same`: it is known to stand there.
 fn take(
     store: &[u8],
     at: &mut [usize; 64],
     ends: &[usize; 64],
     f: &mut [u64; 72],
     p: usize,
-    k: Key,
+    q: usize,
+    g: usize,
+    same: bool,
     held: Held,
 ) -> Held
-    requires { ⌜ Takes (now store) (now at) (now ends) (now f) p k held ⌝ }
-    ensures { λ r. ⌜ Taken (now (store .entry)) (now (at .entry)) (now (at .exit)) (now (ends .entry)) (now (f .entry)) (now (f .exit)) p k held r ⌝ }
+    requires { ⌜ Takes (now store) (now at) (now ends) (now f) p q g same held ⌝ }
+    ensures { λ r. ⌜ Taken (now (store .entry)) (now (at .entry)) (now (at .exit)) (now (ends .entry)) (now (f .entry)) (now (f .exit)) p q g held r ⌝ }
 {
-    let Said::Change(act, next) = ask(store, at[p], ends[p], k) else {
+    let Said::Change(act, next) = ask(store, at[p], ends[p], q, g, same) else {
         return held;
     };
     advance(store, at, ends, f, p, next);
     join(store, held, act)
 }
 
-// What the runs from `from` up to n say of key k, whose front is low, merged; those that stand at it go past it.
+// What the runs from `from` up to n say of the first key of the run from q up to g, merged; those that stand at it go
+// past it. Its front is low, and `first` and `last` are the first run and the last with that front: no other is asked.
+// `same`: all with that front are known to stand at it.
 pub(crate) fn gather(
     store: &[u8],
     at: &mut [usize; 64],
@@ -119,19 +78,23 @@ pub(crate) fn gather(
     low: u64,
     from: usize,
     n: usize,
-    k: Key,
+    first: usize,
+    last: usize,
+    q: usize,
+    g: usize,
+    same: bool,
 ) -> Held
-    requires { ⌜ Meets (now store) (now at) (now ends) from n (now f) low k ⌝ }
-    ensures { λ r. ⌜ Gathered (now (store .entry)) (now (at .entry)) (now (at .exit)) (now (ends .entry)) from n (keyIn (now (store .entry)) k) r × Fronted (now (store .entry)) (now (at .exit)) (now (ends .entry)) from n (now (f .exit)) ⌝ }
+    requires { ⌜ Meets (now store) (now at) (now ends) from n (now f) low first last q g same ⌝ }
+    ensures { λ r. ⌜ Gathered (now (store .entry)) (now (at .entry)) (now (at .exit)) (now (ends .entry)) from n (keyAt (now (store .entry)) q g) r × Fronted (now (store .entry)) (now (at .exit)) (now (ends .entry)) from n (now (f .exit)) ⌝ }
 {
     let mut held = Held::Nothing;
-    let mut r = from;
+    let mut r = first;
     loop {
-        let p = find(f, low, r, n);
-        if n <= p {
+        let p = find(f, low, r, last + 1);
+        if last < p {
             return held;
         }
         r = p + 1;
-        held = take(store, at, ends, f, p, k, held);
+        held = take(store, at, ends, f, p, q, g, same, held);
     }
 }

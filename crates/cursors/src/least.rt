@@ -1,34 +1,44 @@
-// The least key at which any cursor stands.
-use crate::cursor::item_at;
+// The least key at which any cursor stands, and the runs that may have it.
 use crate::lows::find;
-use field::key::Key;
-use field::key::key_compare;
-use item::reading::Read;
+use crate::rank::rank;
 use order::Ordering;
-ghost use Rattle.cursors.specs.Cursor.{Stands, FoundIn, Below};
-ghost use Rattle.cursors.specs.Front.{Looks, LeastBy};
+ghost use Rattle.cursors.specs.Front.{Looks, Pair, Lowers, LeastBy};
 
 pub enum Found {
     Nothing,
-    At(Key),
+    // Where a run stands at it, and the end of that run; the first run and the last with its front, and whether all with
+    // its front stand at it. A no decides nothing.
+    At(usize, usize, usize, usize, bool),
 }
 
-// The first key of the run from p up to e, if it is below what was found.
-fn below(store: &[u8], best: Found, p: usize, e: usize) -> Found
-    requires { ⌜ Stands (now store) p e × FoundIn (now store) best ⌝ }
-    ensures { λ r. ⌜ Below (now (store .entry)) best p e r ⌝ }
+// A run, and whether all that were looked at stand at its key.
+pub struct Lower {
+    pub run: usize,
+    pub same: bool,
+}
+
+// Of runs b and p the one that stands lower; b where they stand at the same key.
+fn lower_run(
+    store: &[u8],
+    at: &[usize; 64],
+    ends: &[usize; 64],
+    b: usize,
+    p: usize,
+    same: bool,
+) -> Lower
+    requires { ⌜ Pair (now store) (now at) (now ends) b p ⌝ }
+    ensures { λ r. ⌜ Lowers (now (store .entry)) (now (at .entry)) (now (ends .entry)) b p same r ⌝ }
 {
-    let Read::One(x) = item_at(store, p, e) else {
-        return Found::Nothing;
-    };
-    let key = x.key;
-    let Found::At(k) = best else {
-        return Found::At(key);
-    };
-    match key_compare(store, k, store, key) {
-        Ordering::Less => Found::Nothing,
-        Ordering::Equal => Found::Nothing,
-        Ordering::Greater => Found::At(key),
+    match rank(store, at[b], ends[b], at[p], ends[p]) {
+        Ordering::Less => Lower {
+            run: b,
+            same: false,
+        },
+        Ordering::Equal => Lower { run: b, same },
+        Ordering::Greater => Lower {
+            run: p,
+            same: false,
+        },
     }
 }
 
@@ -43,22 +53,23 @@ pub(crate) fn least(
     n: usize,
 ) -> Found
     requires { ⌜ Looks (now store) (now at) (now ends) from n (now f) low ⌝ }
-    ensures { λ r. ⌜ LeastBy (now (store .entry)) (now (at .entry)) (now (ends .entry)) from n low r ⌝ }
+    ensures { λ r. ⌜ LeastBy (now (store .entry)) (now (at .entry)) (now (ends .entry)) from n (now (f .entry)) low r ⌝ }
 {
-    let mut best = Found::Nothing;
     if low == 18446744073709551615 {
-        return best;
+        return Found::Nothing;
     }
-    let mut r = from;
+    let first = find(f, low, from, n);
+    let mut best = first;
+    let mut last = first;
+    let mut same = true;
     loop {
-        let p = find(f, low, r, n);
+        let p = find(f, low, last + 1, n);
         if n <= p {
-            return best;
+            return Found::At(at[best], ends[best], first, last, same);
         }
-        r = p + 1;
-        let Found::At(key) = below(store, best, at[p], ends[p]) else {
-            continue;
-        };
-        best = Found::At(key);
+        last = p;
+        let lower = lower_run(store, at, ends, best, p, same);
+        best = lower.run;
+        same = lower.same;
     }
 }

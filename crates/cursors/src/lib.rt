@@ -6,3 +6,5 @@ pub mod gather;
 pub mod least;
 pub mod lows;
 pub mod next;
+pub mod rank;
+pub mod said;

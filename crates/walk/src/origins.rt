@@ -18,7 +18,7 @@ ghost use Rattle.walk.specs.Walk.{Stands, Wrote};
 ghost use Rattle.walk.specs.Origins.{originOf, bothOrigins, OriginCountable, OriginAt, BothAt, Turns, OriginStepIs};
 
 // Whether a delta has an origin at a place. A no decides nothing.
-fn origin_at(s: &[u8], at: usize) -> bool
+pub fn origin_at(s: &[u8], at: usize) -> bool
     requires { ⌜ Ready Changes (now s) at ⌝ }
     ensures { λ r. ⌜ If r (OriginAt (now (s .entry)) at) ⌝ }
 {
@@ -32,7 +32,7 @@ fn origin_at(s: &[u8], at: usize) -> bool
 }
 
 // Whether both sides have an origin. A no decides nothing.
-fn both_at(a: &[u8], i: usize, b: &[u8], j: usize) -> bool
+pub fn both_at(a: &[u8], i: usize, b: &[u8], j: usize) -> bool
     requires { ⌜ Ready Changes (now a) i × Ready Changes (now b) j ⌝ }
     ensures { λ r. ⌜ If r (BothAt (now (a .entry)) i (now (b .entry)) j) ⌝ }
 {
@@ -72,7 +72,7 @@ fn put_origin(s: &[u8], at: usize, out: &mut [u8], counts: Counts) -> Counts
 
 // How the origin of a at i stands to that of b at j. With the lower byte of their length, which is the same, they are
 // three words.
-fn origin_compare(a: &[u8], i: usize, b: &[u8], j: usize) -> Ordering
+pub fn origin_compare(a: &[u8], i: usize, b: &[u8], j: usize) -> Ordering
     requires { ⌜ BothAt (now a) i (now b) j ⌝ }
     ensures { λ r. ⌜ r ≡ bytes (originOf (now (a .entry)) i .key) (originOf (now (b .entry)) j .key) ⌝ }
 {

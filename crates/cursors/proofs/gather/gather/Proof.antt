@@ -6,13 +6,16 @@ use Rattle.cursors.proofs.gather.gather.Statement.{statement}
 use Rattle.cursors.proofs.gather.gather.Tie as tie
 
 abbrev Inv-loop : tie.InvT-loop
-Inv-loop store at₀ ends f₀ low from n k held₀ r₀ at f held r = Gathering store at₀ ends f₀ low from n k at f held r
+Inv-loop store at₀ ends f₀ low from n first last q g same held₀ r₀ at f held r = Gathering store at₀ ends f₀ low from n first last q g same at f held r
 
 abbrev μ-loop : tie.MeasureT-loop
-μ-loop store at₀ ends f₀ low from n k held₀ r₀ at f held r = n - r
+μ-loop store at₀ ends f₀ low from n first last q g same held₀ r₀ at f held r = last + 1 - r
 
 loop-holds : tie.Need-loop-holds Inv-loop μ-loop
 loop-holds c = search (gathering, needs)
+
+add-find : tie.Need-add-find Inv-loop μ-loop
+add-find c = search (gathering, needs)
 
 find-requires : tie.Need-find-requires Inv-loop μ-loop
 find-requires c κs = search (gathering, needs)
@@ -39,6 +42,7 @@ gather-spec =
     Inv-loop
     μ-loop
     loop-holds
+    add-find
     find-requires
     returns
     add-r

@@ -14,41 +14,32 @@ abbrev μ-loop : tie.MeasureT-loop
 loop-holds : tie.Need-loop-holds Inv-loop μ-loop
 loop-holds c = search (finding, needs)
 
-add-if2 : tie.Need-add-if2 Inv-loop μ-loop
-add-if2 c = search (finding, needs)
+mul-end : tie.Need-mul-end Inv-loop μ-loop
+mul-end c = search (finding, needs)
 
-mul-if2 : tie.Need-mul-if2 Inv-loop μ-loop
-mul-if2 c = search (finding, needs)
+add-end : tie.Need-add-end Inv-loop μ-loop
+add-end c = search (finding, needs)
 
-element-copy-out-if2 : tie.Need-element-copy-out-if2 Inv-loop μ-loop
-element-copy-out-if2 c = search (finding, needs)
+find-near-requires : tie.Need-find-near-requires Inv-loop μ-loop
+find-near-requires c κs = search (finding, needs)
 
-add-r : tie.Need-add-r Inv-loop μ-loop
-add-r c = search (finding, needs)
+returns : tie.Need-returns Inv-loop μ-loop
+returns c = search (finding, needs)
+
+add-skip : tie.Need-add-skip Inv-loop μ-loop
+add-skip c = search (finding, needs)
+
+skip-requires : tie.Need-skip-requires Inv-loop μ-loop
+skip-requires c κs = search (finding, needs)
+
+mul-r : tie.Need-mul-r Inv-loop μ-loop
+mul-r c = search (finding, needs)
 
 loop-less : tie.Need-loop-less Inv-loop μ-loop
 loop-less c = search (finding, needs)
 
 loop-again : tie.Need-loop-again Inv-loop μ-loop
 loop-again c = search (finding, needs)
-
-mul-if3 : tie.Need-mul-if3 Inv-loop μ-loop
-mul-if3 c = search (finding, needs)
-
-element-copy-out-if3 : tie.Need-element-copy-out-if3 Inv-loop μ-loop
-element-copy-out-if3 c = search (finding, needs)
-
-returns : tie.Need-returns Inv-loop μ-loop
-returns c = search (finding, needs)
-
-add-r-2 : tie.Need-add-r-2 Inv-loop μ-loop
-add-r-2 c = search (finding, needs)
-
-loop-less-2 : tie.Need-loop-less-2 Inv-loop μ-loop
-loop-less-2 c = search (finding, needs)
-
-loop-again-2 : tie.Need-loop-again-2 Inv-loop μ-loop
-loop-again-2 c = search (finding, needs)
 
 returns-2 : tie.Need-returns-2 Inv-loop μ-loop
 returns-2 c = search (finding, needs)
@@ -60,16 +51,13 @@ find-spec =
     Inv-loop
     μ-loop
     loop-holds
-    add-if2
-    mul-if2
-    element-copy-out-if2
-    add-r
+    mul-end
+    add-end
+    find-near-requires
+    returns
+    add-skip
+    skip-requires
+    mul-r
     loop-less
     loop-again
-    mul-if3
-    element-copy-out-if3
-    returns
-    add-r-2
-    loop-less-2
-    loop-again-2
     returns-2)

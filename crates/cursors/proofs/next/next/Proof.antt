@@ -20,8 +20,8 @@ of-eight-requires c κs = search (stepping, needs)
 least-requires : tie.Need-least-requires Inv-loop μ-loop
 least-requires c κs = search (stepping, needs)
 
-enum-known-key : tie.Need-enum-known-key Inv-loop μ-loop
-enum-known-key c = search (stepping, needs)
+enum-known-p : tie.Need-enum-known-p Inv-loop μ-loop
+enum-known-p c = search (stepping, needs)
 
 enum-told : tie.Need-enum-told Inv-loop μ-loop
 enum-told c = search (stepping, needs)
@@ -31,10 +31,13 @@ returns c = search (stepping, needs)
 
 gather-requires : tie.Need-gather-requires Inv-loop μ-loop
 gather-requires c κs =
-    step-meets _ _ _ _ _ _ _ _ (c .before .before .before .before .before .before .before .before .before .before .loop .inv) _ _ (c .before .before .before .before .before .least .ensures) _ (search needs)
+    step-meets _ _ _ _ _ _ _ _ (c .before .before .before .before .before .before .before .before .before .before .loop .inv) _ _ (c .before .before .before .before .before .least .ensures) _ _ _ _ _ (search needs)
 
 enum-known-held : tie.Need-enum-known-held Inv-loop μ-loop
 enum-known-held c = search (stepping, needs)
+
+made-requires : tie.Need-made-requires Inv-loop μ-loop
+made-requires c κs = search (stepping, needs)
 
 returns-2 : tie.Need-returns-2 Inv-loop μ-loop
 returns-2 c = search (stepping, needs)
@@ -57,11 +60,12 @@ next-spec =
     loop-holds
     of-eight-requires
     least-requires
-    enum-known-key
+    enum-known-p
     enum-told
     returns
     gather-requires
     enum-known-held
+    made-requires
     returns-2
     enum-told-2
     loop-less
