@@ -21,7 +21,7 @@ use Rattle.payload.specs.Content.{Bytes}
 use Rattle.item.specs.Front.{packs, frontKey}
 use Rattle.item.proofs.Fronts.{front-less, front-greater}
 use Rattle.heard.specs.Place.{typeAt, sizeAt, keyAt, Sized, v4, v6, key, Payload, before, precedes}
-use Rattle.heard.specs.Compare.{Of, Fronted, Alike}
+use Rattle.heard.specs.Compare.{Of, Fronted, FrontOf, Alike}
 use Rattle.heard.proofs.Keys.{byteAt, word-from, four-from, fourKey, four-key, sixKey, six-key, router-key}
 use Rattle.heard.proofs.Places.{four-small, low-half, high-half, least, long, third, size-least}
 use Rattle.heard.proofs.Fronts.{front-four, front-six, front-key}
@@ -258,8 +258,8 @@ word-small s o i = plain (fourAt s i) (fourAt s (i + 4)) (four-small s o i) (fou
 module _ (s : Bytes) (o : Octets s) where
   four-below : (at : ℕ) → Payload s at → typeAt s at ≡ 4 → frontKey (keyAt s at) < 0x0105000000000000
   four-below at p t =
-      let e = front-four s at p o t (wordAt s (at + 8)) refl in
-      omega (arith, e)
+      let e = front-four s at p o t (wordAt s (at + 12)) refl in
+      omega (arith, e, word-small s o (at + 12))
 
   six-above : (at : ℕ) → Payload s at → typeAt s at ≡ 6 → 0x0106000000000000 ≤ frontKey (keyAt s at)
   six-above at p t = let e = front-six s at p o t (wordAt s (at + 12)) refl in omega (arith, e)
@@ -364,5 +364,20 @@ module _ (s : Bytes) (o : Octets s) (x y : ℕ) (a : Payload s x) (b : Payload s
 
   pub front-other-2 : q < p → false ≡ isEqual (bytes (keyAt s x) (keyAt s y))
   front-other-2 h = same-greater s x y Greater (fronts-greater h) refl
+
+module _ (s : Bytes) (o : Octets s) (p x q y : ℕ) (a : FrontOf s p x) (b : FrontOf s q y) where
+  pub by-before : p < q → true ≡ precedes s x y
+  by-before = front-before s o x y (a .payload) (b .payload) p q (a .is) (b .is)
+
+  pub by-behind : q < p → false ≡ precedes s x y
+  by-behind = front-behind s o x y (a .payload) (b .payload) p q (a .is) (b .is)
+
+  pub by-same : q ≤ p → p ≤ q → Fronted s x y
+  by-same = fronts-same s o x y (a .payload) (b .payload) p q (a .is) (b .is)
+
+pub front-of : (s : Bytes) (p x : ℕ) → Payload s x → p ≡ frontKey (keyAt s x) → FrontOf s p x
+front-of s p x a e = record { payload = a; is = e }
+
+pub ruleset by-fronts = (by-before, by-behind, by-same, front-of)
 
 pub ruleset comparing = (front-before, front-behind, front-other, front-other-2, fronts-same, before-less, before-equal, before-greater, same-less, same-equal, same-greater)

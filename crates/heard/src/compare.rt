@@ -10,7 +10,7 @@ ghost use Rattle.order.specs.Comparison.{number, bytes};
 ghost use Rattle.change.specs.Application.{isEqual};
 ghost use Rattle.field.specs.Number.{wordAt};
 ghost use Rattle.heard.specs.Place.{keyAt, precedes, Payload};
-ghost use Rattle.heard.specs.Compare.{Of, Alike, Fronted};
+ghost use Rattle.heard.specs.Compare.{Of, Alike, Fronted, FrontOf};
 
 // The last eight bytes of an IPv4 prefix's record: two zeros, the lengths, the AS number.
 fn four_last(s: &[u8], at: usize) -> usize
@@ -99,13 +99,11 @@ fn is_before_behind(s: &[u8], x: usize, y: usize) -> bool
     }
 }
 
-// Whether the message at x stands before the one at y.
-pub fn is_before(s: &[u8], x: usize, y: usize) -> bool
-    requires { ⌜ Payload (now s) x × Payload (now s) y ⌝ }
+// Whether the message at x, with the front p, stands before the one at y, with the front q.
+pub fn is_before_by(s: &[u8], p: usize, x: usize, q: usize, y: usize) -> bool
+    requires { ⌜ FrontOf (now s) p x × FrontOf (now s) q y ⌝ }
     ensures { λ r. ⌜ r ≡ precedes (now (s .entry)) x y ⌝ }
 {
-    let p = front_at(s, x);
-    let q = front_at(s, y);
     if p < q {
         return true;
     }
@@ -113,6 +111,14 @@ pub fn is_before(s: &[u8], x: usize, y: usize) -> bool
         return false;
     }
     is_before_behind(s, x, y)
+}
+
+// Whether the message at x stands before the one at y.
+pub fn is_before(s: &[u8], x: usize, y: usize) -> bool
+    requires { ⌜ Payload (now s) x × Payload (now s) y ⌝ }
+    ensures { λ r. ⌜ r ≡ precedes (now (s .entry)) x y ⌝ }
+{
+    is_before_by(s, front_at(s, x), x, front_at(s, y), y)
 }
 
 // Whether two messages are of the same record, where their fronts are the same.
