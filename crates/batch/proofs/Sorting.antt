@@ -150,6 +150,12 @@ module _ (s : Bytes) where
   sorted-more [] x = refl
   sorted-more (y ∷ l) x = ap (insert s y) (sorted-more l x) ∙ insert-comm y x (sorted s l)
 
+  -- one more, wherever it stands
+  pub sorted-mid : (u v : List ℕ) (x : ℕ) → sorted s (u ++ (x ∷ v)) ≡ insert s x (sorted s (u ++ v))
+  unfolding insert sorted
+  sorted-mid [] v x = refl
+  sorted-mid (y ∷ u) v x = ap (insert s y) (sorted-mid u v x) ∙ insert-comm y x (sorted s (u ++ v))
+
   pub sorted-set : (l : List ℕ) (i v : ℕ) → i < length l → insert s (getD l i 0) (sorted s (set l i v)) ≡ insert s v (sorted s l)
   unfolding sorted
   sorted-set [] i v h = absurd (omega arith)

@@ -89,34 +89,69 @@ pub record Told (s : Bytes) (stop low : ℕ) : Type 0 where
   pub messages : Messages s 8 xs stop
   pub bound : Bound s low
 
-pub record Trims (s : Bytes) (l : List ℕ) (n : ℕ) : Type 0 where
+-- the fronts between which those lie that may be held
+pub record Fronts (s : Bytes) (low : ℕ) (p : Part) : Type 0 where
+  pub least : p .least ≡ frontOr s low 0
+  pub most : p .most ≡ frontOr s (p .top) 18_446_744_073_709_551_615
+
+-- false only for a front that is not between the two
+pub record Sifted (front least most : ℕ) (r : Bool) : Type 0 where
+  pub out : r ≡ false → least ≤ front → front ≤ most → ⊥
+
+pub record Trims (s : Bytes) (low : ℕ) (l : List ℕ) (p : Part) : Type 0 where
+  pub low-bound : Bound s low
   pub long : length l ≡ 6_000
-  pub few : n ≤ 6_000
-  pub held : (k : ℕ) → k < n → Payload s (getD l k 0)
+  pub few : p .n ≤ 6_000
+  pub held : (k : ℕ) → k < p .n → Payload s (getD l k 0)
 
 -- a buffer with room stays; of a full one the lower part does, and its last is the top
-pub data Trimmed (s : Bytes) (l₀ : List ℕ) (n top : ℕ) (l : List ℕ) (p : Part) : Type 0 where
-  kept : n < 6_000 → l ≡ l₀ → p ≡ record { n = n; top = top } → Trimmed s l₀ n top l p
-  cut : n ≡ 6_000 → SortedIs s l₀ l → p ≡ record { n = 4_500; top = getD l 4_499 0 } → Trimmed s l₀ n top l p
+pub data Trimmed (s : Bytes) (low : ℕ) (l₀ : List ℕ) (p₀ : Part) (l : List ℕ) (p : Part) : Type 0 where
+  kept : p₀ .n < 6_000 → l ≡ l₀ → p ≡ p₀ → Trimmed s low l₀ p₀ l p
+  cut : p₀ .n ≡ 6_000 → SortedIs s l₀ l → p .n ≡ 4_500 → p .top ≡ getD l 4_499 0 → Fronts s low p → Trimmed s low l₀ p₀ l p
 
 -- what is asked for a message to be taken in
 pub record Takes (s : Bytes) (low at : ℕ) (l : List ℕ) (p : Part) : Type 0 where
   pub low-bound : Bound s low
   pub top-bound : Bound s (p .top)
+  pub fronts : Fronts s low p
   pub good : Payload s at
   pub len : length l ≡ 6_000
   pub room : p .n < 6_000
   pub held : (k : ℕ) → k < p .n → Payload s (getD l k 0)
 
+abbrev pub oneMore : Part → Part
+oneMore p = record { n = p .n + 1; top = p .top; least = p .least; most = p .most }
+
 -- it is passed over, or it stands behind those held
 pub data Taken (s : Bytes) (low at : ℕ) (l₀ : List ℕ) (p₀ : Part) (l : List ℕ) (p : Part) : Type 0 where
   passed : isWanted s low (p₀ .top) at ≡ false → l ≡ l₀ → p ≡ p₀ → Taken s low at l₀ p₀ l p
-  taken : isWanted s low (p₀ .top) at ≡ true → Trimmed s (set l₀ (p₀ .n) at) (p₀ .n + 1) (p₀ .top) l p → Taken s low at l₀ p₀ l p
+  taken : isWanted s low (p₀ .top) at ≡ true → Trimmed s low (set l₀ (p₀ .n) at) (oneMore p₀) l p → Taken s low at l₀ p₀ l p
+
+-- two of them, one after the other
+pub data TakesTwo (s : Bytes) (low a b : ℕ) (l : List ℕ) (p : Part) : Type 0 where
+  both : Takes s low a l p → Payload s b → TakesTwo s low a b l p
+
+pub data TakenTwo (s : Bytes) (low a b : ℕ) (l₀ : List ℕ) (p₀ : Part) (l : List ℕ) (p : Part) : Type 0 where
+  both : (m : List ℕ) (q : Part) → Taken s low a l₀ p₀ m q → Taken s low b m q l p → TakenTwo s low a b l₀ p₀ l p
 
 -- 0, or one of these messages, behind `low`
 pub data TopIs (s : Bytes) (xs : List ℕ) (low top : ℕ) : Type 0 where
   all : top ≡ 0 → TopIs s xs low top
   one : In top xs → isAbove s low top ≡ true → TopIs s xs low top
+
+-- of the messages xs those in ws are met: the buffer holds, in some order, those of them behind `low` and not behind the top
+pub record Holds (s : Bytes) (xs ws : List ℕ) (low : ℕ) (l : List ℕ) (p : Part) : Type 0 where
+  pub low-bound : Bound s low
+  pub fronts : Fronts s low p
+  pub len : length l ≡ 6_000
+  pub room : p .n < 6_000
+  pub held : (k : ℕ) → k < p .n → Payload s (getD l k 0)
+  pub is : sorted s (take (p .n) l) ≡ sorted s (only (isWanted s low (p .top)) ws)
+  pub top : TopIs s xs low (p .top)
+
+-- of the messages up to `stop` those before `at` are met
+pub data Reached (s : Bytes) (stop low at : ℕ) (l : List ℕ) (p : Part) : Type 0 where
+  reached : (ps rest : List ℕ) → Messages s 8 ps at → Messages s at rest stop → Holds s (ps ++ rest) ps low l p → Reached s stop low at l p
 
 -- the buffer holds, in some order, the messages up to `stop` behind `low` and not behind the top
 pub record Collected (s : Bytes) (stop low : ℕ) (l : List ℕ) (p : Part) : Type 0 where

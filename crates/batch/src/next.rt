@@ -21,7 +21,7 @@ pub fn next(
     s: &[u8],
     stop: usize,
     low: usize,
-    marks: &[usize; 512],
+    marks: &[usize; 640],
     hints: &[usize; 962],
     buf: &mut [usize; 6000],
 ) -> Batch

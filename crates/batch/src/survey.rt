@@ -58,14 +58,23 @@ fn draw(
 }
 
 // A chunk is written down.
-fn note(marks: &mut [usize; 512], c: usize, from: usize, over: usize, least: usize, most: usize)
-    requires { ⌜ (length (now marks) ≡ 512) × (c < 128) ⌝ }
-    ensures { λ r. ⌜ Noted (now (marks .entry)) c from over least most (now (marks .exit)) ⌝ }
+fn note(
+    marks: &mut [usize; 640],
+    c: usize,
+    from: usize,
+    mid: usize,
+    over: usize,
+    least: usize,
+    most: usize,
+)
+    requires { ⌜ (length (now marks) ≡ 640) × (c < 128) ⌝ }
+    ensures { λ r. ⌜ Noted (now (marks .entry)) c from mid over least most (now (marks .exit)) ⌝ }
 {
-    marks[4 * c] = from;
-    marks[4 * c + 1] = over;
-    marks[4 * c + 2] = least;
-    marks[4 * c + 3] = most;
+    marks[5 * c] = from;
+    marks[5 * c + 1] = mid;
+    marks[5 * c + 2] = over;
+    marks[5 * c + 3] = least;
+    marks[5 * c + 4] = most;
 }
 
 // Chunk c, which starts at `at`: its messages stand in the buffer then, in message order.
@@ -74,7 +83,7 @@ fn chart(
     stop: usize,
     at: usize,
     c: usize,
-    marks: &mut [usize; 512],
+    marks: &mut [usize; 640],
     buf: &mut [usize; 6000],
 ) -> Filled
     requires { ⌜ Starts (now s) stop at c (now marks) (now buf) ⌝ }
@@ -82,8 +91,9 @@ fn chart(
 {
     let f = fill(s, at, stop, buf);
     let n = f.n;
+    let mid = buf[n / 2];
     sort_first(s, &mut buf[..], n);
-    note(marks, c, at, f.over, buf[0], buf[n - 1]);
+    note(marks, c, at, mid, f.over, buf[0], buf[n - 1]);
     f
 }
 
@@ -92,7 +102,7 @@ fn chunks(
     s: &[u8],
     stop: usize,
     every: usize,
-    marks: &mut [usize; 512],
+    marks: &mut [usize; 640],
     hints: &mut [usize; 962],
     buf: &mut [usize; 6000],
 ) -> usize
@@ -129,7 +139,7 @@ pub fn survey(
     s: &[u8],
     stop: usize,
     count: usize,
-    marks: &mut [usize; 512],
+    marks: &mut [usize; 640],
     hints: &mut [usize; 962],
     buf: &mut [usize; 6000],
 )

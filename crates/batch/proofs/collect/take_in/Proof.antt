@@ -12,8 +12,8 @@ mul-buf c = search (takings, needs)
 element-write-buf : tie.Need-element-write-buf
 element-write-buf c = search (takings, needs)
 
-add-trim : tie.Need-add-trim
-add-trim c = search (takings, needs)
+add-t10 : tie.Need-add-t10
+add-t10 c = search (takings, needs)
 
 trim-requires : tie.Need-trim-requires
 trim-requires c κs = search (takings, needs)
@@ -27,11 +27,4 @@ returns-2 c = search (takings, needs)
 pub take-in-spec : {M : Type 1} → statement M
 take-in-spec =
     tie.close
-    (tie.spec
-    is-wanted-requires
-    mul-buf
-    element-write-buf
-    add-trim
-    trim-requires
-    returns
-    returns-2)
+    (tie.spec is-wanted-requires mul-buf element-write-buf add-t10 trim-requires returns returns-2)

@@ -6,6 +6,12 @@ use Rattle.batch.proofs.survey.chart.Tie as tie
 fill-requires : tie.Need-fill-requires
 fill-requires c κs = search (charting, needs)
 
+mul-mid : tie.Need-mul-mid
+mul-mid c = search (charting, needs)
+
+element-copy-out-mid : tie.Need-element-copy-out-mid
+element-copy-out-mid c = search (charting, needs)
+
 sort-first-requires : tie.Need-sort-first-requires
 sort-first-requires c κs = search (charting, needs)
 
@@ -32,6 +38,8 @@ chart-spec =
     tie.close
     (tie.spec
     fill-requires
+    mul-mid
+    element-copy-out-mid
     sort-first-requires
     element-copy-out-note
     sub-note
