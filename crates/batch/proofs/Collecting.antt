@@ -20,7 +20,7 @@ use Rattle.heard.proofs.Comparing.{front-before, front-behind}
 use Rattle.batch.specs.declared.collect.Part.{Part}
 use Rattle.batch.specs.declared.next.Batch.{Batch}
 use Rattle.batch.specs.Next.{sorted, isAbove, left, NextIs}
-use Rattle.batch.specs.Keep.{only, isUpTo, isWanted, frontOr, In, Bound, none, one, Held, SortedIs, FirstSorted, Told, Fronts, Sifted, Trims, Trimmed, kept, cut, Takes, oneMore, Taken, TakesTwo, TakenTwo, TopIs, all, Holds, Reached, reached, Collected}
+use Rattle.batch.specs.Keep.{only, isUpTo, isWanted, frontOr, In, Bound, none, one, Held, SortedIs, FirstSorted, Told, Fronts, Sifted, Trims, Trimmed, kept, cut, Meets, Passed, Takes, oneMore, Taken, TakesTwo, TakenTwo, TopIs, all, Holds, WalkedTo, walked, Collected}
 use Rattle.batch.specs.Keep as keep
 use Rattle.batch.specs.Map.{Hint, Hinted, Stretch, Chunk, Marked, isChunk, Tops, Clears, Clear}
 use Rattle.batch.specs.Map as map
@@ -119,21 +119,23 @@ module _ (s : Bytes) (o : (i : ℕ) → Fits w8 (getD s i 0)) (low x f : ℕ) (p
           let q : most ≡ frontKey (keyAt s top) = e ∙ rw (ne-eqb top 0 z) in
           rw (ne-eqb top 0 z) (ap not (sym (front-before s o top x (bound-good s top x b z) (p .payload) most f q (p .is) h)))
 
-  pub meet-passed : (l : List ℕ) (c : Part) → Takes s low x l c → Fits w64 f → (r : Bool) → Sifted f (c .least) (c .most) r → r ≡ false → Taken s low x l c l c
-  meet-passed l c t w r i e = keep.passed (go (decLe (c .least) f) (decLe f (c .most))) refl refl
+  front-passed : (c : Part) → Meets s low x c → Fits w64 f → Sifted f (c .least) (c .most) false → isWanted s low (c .top) x ≡ false
+  front-passed c t w i = go (decLe (c .least) f) (decLe f (c .most))
     where
       go : Dec (c .least ≤ f) → Dec (f ≤ c .most) → isWanted s low (c .top) x ≡ false
-      go (yes h) (yes k) = absurd (i .out e h k)
+      go (yes h) (yes k) = absurd (i .out refl h k)
       go (yes h) (no k) = front-over (c .top) (t .top-bound) (c .most) (t .fronts .most) (w .fits) (omega arith)
       go (no h) k = front-under (t .low-bound) (c .top) (c .least) (t .fronts .least) (omega arith)
 
-pub meet-good : (s : Bytes) (low at : ℕ) (l : List ℕ) (p : Part) → Takes s low at l p → Payload s at
-meet-good s low at l p t = t .good
+module _ (s : Bytes) (low x : ℕ) (c : Part) (t : Meets s low x c) where
+  pub pass-good : Payload s x
+  pass-good = t .good
 
-pub meet-front : (s : Bytes) (low at : ℕ) (l : List ℕ) (p : Part) → Takes s low at l p → (f : ℕ) → f ≡ frontKey (keyAt s at) → FrontOf s f at
-meet-front s low at l p t f e = record { payload = t .good; is = e }
+  pub pass-is : ((i : ℕ) → Fits w8 (getD s i 0)) → (f : ℕ) → f ≡ frontKey (keyAt s x) → Fits w64 f → (r : Bool) → Sifted f (c .least) (c .most) r → Passed s low x c (not r)
+  pass-is o f e w true i = keep.Passed.unsure
+  pass-is o f e w false i = keep.surely (front-passed s o low x f (record { payload = t .good; is = e }) c t w i)
 
-pub ruleset meeting = (meet-passed, meet-good, meet-front)
+pub ruleset passing = (pass-good, pass-is)
 
 -- ---- trim
 
@@ -167,13 +169,19 @@ pub ruleset trimming = (trim-none, trim-low, trim-held, trim-long, trim-in, trim
 
 module _ (s : Bytes) (low at : ℕ) (l : List ℕ) (p : Part) (t : Takes s low at l p) where
   pub take-low : Bound s low
-  take-low = t .low-bound
+  take-low = t .meets .low-bound
 
   pub take-top : Bound s (p .top)
-  take-top = t .top-bound
+  take-top = t .meets .top-bound
 
   pub take-fronts : Fronts s low p
-  take-fronts = t .fronts
+  take-fronts = t .meets .fronts
+
+  pub take-good : Payload s at
+  take-good = t .meets .good
+
+  pub take-front : (f : ℕ) → f ≡ frontKey (keyAt s at) → FrontOf s f at
+  take-front f e = record { payload = t .meets .good; is = e }
 
   pub take-room : p .n < 6_000
   take-room = t .room
@@ -182,10 +190,10 @@ module _ (s : Bytes) (low at : ℕ) (l : List ℕ) (p : Part) (t : Takes s low a
   take-within = omega (arith, t .room, t .len)
 
   pub take-trims : Trims s low (set l (p .n) at) (oneMore p)
-  take-trims = record { low-bound = t .low-bound; long = length-set l (p .n) at ∙ t .len; few = omega (arith, t .room); held = λ k q. go k q (ℕ-discrete k (p .n)) }
+  take-trims = record { low-bound = t .meets .low-bound; long = length-set l (p .n) at ∙ t .len; few = omega (arith, t .room); held = λ k q. go k q (ℕ-discrete k (p .n)) }
     where
       go : (k : ℕ) → k < p .n + 1 → Dec (k ≡ p .n) → Payload s (getD (set l (p .n) at) k 0)
-      go k q (yes d) = rw (d, getD-set-same l (p .n) at 0 take-within) (t .good)
+      go k q (yes d) = rw (d, getD-set-same l (p .n) at 0 take-within) (t .meets .good)
       go k q (no d) = rw (getD-set-other l (p .n) k at 0 d) (t .held k (omega arith))
 
   module _ (r : Bool) (f : r ≡ isWanted s low (p .top) at) where
@@ -195,27 +203,26 @@ module _ (s : Bytes) (low at : ℕ) (l : List ℕ) (p : Part) (t : Takes s low a
     pub take-taken : r ≡ true → (m : List ℕ) (q : Part) → Trimmed s low (set l (p .n) at) (oneMore p) m q → Taken s low at l p m q
     take-taken g m q z = keep.taken (sym f ∙ g) z
 
-pub ruleset takings = (take-low, take-top, take-fronts, take-room, take-within, take-trims, take-passed, take-taken)
+pub ruleset takings = (take-low, take-top, take-fronts, take-good, take-front, take-room, take-within, take-trims, take-passed, take-taken)
 
--- ---- meet_two
+-- ---- take_two
 
 second-takes : (s : Bytes) (low a : ℕ) (l : List ℕ) (p : Part) → Takes s low a l p → (b : ℕ) → Payload s b → (m : List ℕ) (q : Part) → Taken s low a l p m q → Takes s low b m q
 second-takes s low a l p t b g m q (keep.passed f d e) =
-    rw (d, e) (record { low-bound = t .low-bound; top-bound = t .top-bound; fronts = t .fronts; good = g; len = t .len; room = t .room; held = t .held })
+    rw (d, e) (record { meets = record { low-bound = t .meets .low-bound; top-bound = t .meets .top-bound; fronts = t .meets .fronts; good = g }; len = t .len; room = t .room; held = t .held })
 second-takes s low a l p t b g m q (keep.taken f (kept r d e)) = rw (d, e) (record {
-  low-bound = t .low-bound;
-  top-bound = t .top-bound;
-  fronts = record { least = t .fronts .least; most = t .fronts .most };
-  good = g;
+  meets = record {
+    low-bound = t .meets .low-bound;
+    top-bound = t .meets .top-bound;
+    fronts = record { least = t .meets .fronts .least; most = t .meets .fronts .most };
+    good = g;
+  };
   len = take-trims s low a l p t .long;
   room = r;
   held = take-trims s low a l p t .held;
 })
 second-takes s low a l p t b g m q (keep.taken f (cut r i c d e)) = record {
-  low-bound = t .low-bound;
-  top-bound = rw d (one (i .held .each 4_499 (omega (arith, long))));
-  fronts = e;
-  good = g;
+  meets = record { low-bound = t .meets .low-bound; top-bound = rw d (one (i .held .each 4_499 (omega (arith, long)))); fronts = e; good = g };
   len = long;
   room = omega (arith, c);
   held = λ k z. i .held .each k (omega (arith, long, c));
@@ -224,9 +231,22 @@ second-takes s low a l p t b g m q (keep.taken f (cut r i c d e)) = record {
     long : length m ≡ 6_000
     long = ap length (i .is) ∙ length-sorted s (set l (p .n) a) ∙ length-set l (p .n) a ∙ t .len
 
+surely-not : (s : Bytes) (low at : ℕ) (p : Part) (r : Bool) → Passed s low at p r → r ≡ true → isWanted s low (p .top) at ≡ false
+surely-not s low at p r (keep.surely f) e = f
+surely-not s low at p r keep.Passed.unsure e = true≢false e refl
+
 module _ (s : Bytes) (low a b : ℕ) (l : List ℕ) (p : Part) where
   pub two-first : TakesTwo s low a b l p → Takes s low a l p
   two-first (keep.TakesTwo.both t g) = t
+
+  pub two-meets : TakesTwo s low a b l p → Meets s low a p
+  two-meets (keep.TakesTwo.both t g) = t .meets
+
+  pub two-other : TakesTwo s low a b l p → Meets s low b p
+  two-other (keep.TakesTwo.both t g) = record { low-bound = t .meets .low-bound; top-bound = t .meets .top-bound; fronts = t .meets .fronts; good = g }
+
+  pub two-passed : (r t : Bool) → Passed s low a p r → r ≡ true → Passed s low b p t → t ≡ true → TakenTwo s low a b l p l p
+  two-passed r t d e f g = keep.TakenTwo.both l p (keep.passed (surely-not s low a p r d e) refl refl) (keep.passed (surely-not s low b p t f g) refl refl)
 
   pub two-second : TakesTwo s low a b l p → (m : List ℕ) (q : Part) → Taken s low a l p m q → Takes s low b m q
   two-second (keep.TakesTwo.both t g) m q d = second-takes s low a l p t b g m q d
@@ -234,7 +254,7 @@ module _ (s : Bytes) (low a b : ℕ) (l : List ℕ) (p : Part) where
   pub two-taken : (m : List ℕ) (q : Part) → Taken s low a l p m q → (n : List ℕ) (r : Part) → Taken s low b m q n r → TakenTwo s low a b l p n r
   two-taken m q d n r e = keep.TakenTwo.both m q d e
 
-pub ruleset twice = (two-first, two-second, two-taken)
+pub ruleset twice = (two-first, two-meets, two-other, two-passed, two-second, two-taken)
 
 -- ---- one message more is met
 
@@ -245,10 +265,7 @@ top-good s stop xs m low top (keep.one i e) = one (in-all i (messages-good m))
 module _ (s : Bytes) (stop : ℕ) (xs : List ℕ) (w : Messages s 8 xs stop) (low : ℕ) (l : List ℕ) (p : Part) where
   hold-takes : (ws : List ℕ) → Holds s xs ws low l p → (at : ℕ) → Payload s at → Takes s low at l p
   hold-takes ws t at g = record {
-    low-bound = t .low-bound;
-    top-bound = top-good s stop xs w low (p .top) (t .top);
-    fronts = t .fronts;
-    good = g;
+    meets = record { low-bound = t .low-bound; top-bound = top-good s stop xs w low (p .top) (t .top); fronts = t .fronts; good = g };
     len = t .len;
     room = t .room;
     held = t .held;
@@ -361,9 +378,9 @@ pub ruleset behinds = (behind-good, behind-add, behind-more)
 -- ---- walk
 
 pub data Walking (s : Bytes) (stop low over : ℕ) (l : List ℕ) (p : Part) (at : ℕ) : Type 0 where
-  walks : Reached s stop low at l p → Stretch s at over → over ≤ stop → Walking s stop low over l p at
+  walks : WalkedTo s stop low at l p → Stretch s at over → over ≤ stop → Walking s stop low over l p at
 
-pub walk-start : (s : Bytes) (stop low from over : ℕ) (l : List ℕ) (p : Part) → Reached s stop low from l p → Stretch s from over → over ≤ stop → Walking s stop low over l p from
+pub walk-start : (s : Bytes) (stop low from over : ℕ) (l : List ℕ) (p : Part) → WalkedTo s stop low from l p → Stretch s from over → over ≤ stop → Walking s stop low over l p from
 walk-start s stop low from over l p r t h = walks r t h
 
 module _ (s : Bytes) (stop low over : ℕ) (l : List ℕ) (p : Part) (at : ℕ) where
@@ -371,11 +388,11 @@ module _ (s : Bytes) (stop low over : ℕ) (l : List ℕ) (p : Part) (at : ℕ) 
   walk-stretch (walks r t w) = t
 
   pub walk-takes : Walking s stop low over l p at → at < over → Takes s low at l p
-  walk-takes (walks (reached ps rest m n k) t w) h = hold-takes s stop (ps ++ rest) (messages-append m n) low l p ps k at (first-good (t .messages) h)
+  walk-takes (walks (walked ps rest m n k) t w) h = hold-takes s stop (ps ++ rest) (messages-append m n) low l p ps k at (first-good (t .messages) h)
 
   pub walk-again : Walking s stop low over l p at → at < over → (next : ℕ) → next ≡ at + sizeAt s at → (m : List ℕ) (q : Part) → Taken s low at l p m q → Walking s stop low over m q next
-  walk-again (walks (reached ps rest x y k) t w) h next e m q d = rw e (walks
-      (reached (ps ++ (at ∷ [])) (b .rest) (messages-append x (more good done)) (b .ahead)
+  walk-again (walks (walked ps rest x y k) t w) h next e m q d = rw e (walks
+      (walked (ps ++ (at ∷ [])) (b .rest) (messages-append x (more good done)) (b .ahead)
       (rw same (hold-more s stop (ps ++ rest) (messages-append x y) low l p ps [] (rw (append-nil ps) k) at good here m q d)))
       (record { xs = past (t .messages) h .rest; messages = past (t .messages) h .ahead })
       w)
@@ -392,10 +409,16 @@ module _ (s : Bytes) (stop low over : ℕ) (l : List ℕ) (p : Part) (at : ℕ) 
       here : Sub (ps ++ (at ∷ [])) (ps ++ rest)
       here = let z : Sub (ps ++ (at ∷ [])) (ps ++ (at ∷ b .rest)) = sub-behind ps (keep-one (sub-none (b .rest))) in rw (← b .is) at z
 
-  pub walk-end : Walking s stop low over l p at → over ≤ at → Reached s stop low over l p
+  pub walk-meets : Walking s stop low over l p at → at < over → Meets s low at p
+  walk-meets t h = walk-takes t h .meets
+
+  pub walk-skip : Walking s stop low over l p at → at < over → (r : Bool) → Passed s low at p r → r ≡ true → (next : ℕ) → next ≡ at + sizeAt s at → Walking s stop low over l p next
+  walk-skip t h r d f next e = walk-again t h next e l p (keep.passed (surely-not s low at p r d f) refl refl)
+
+  pub walk-end : Walking s stop low over l p at → over ≤ at → WalkedTo s stop low over l p
   walk-end (walks r t w) h = let e : over ≡ at = omega (arith, messages-ahead (t .messages)) in rw e r
 
-pub ruleset walking = (walk-start, walk-stretch, walk-takes, walk-again, walk-end)
+pub ruleset walking = (walk-start, walk-stretch, walk-meets, walk-skip, walk-takes, walk-again, walk-end)
 
 -- ---- walk_halves
 
@@ -415,9 +438,9 @@ pub record Halved (s : Bytes) (stop low mid over : ℕ) (l : List ℕ) (p : Part
 pub data Halving (s : Bytes) (stop low mid over : ℕ) (l : List ℕ) (p : Part) (a b : ℕ) : Type 0 where
   halves : Halved s stop low mid over l p a b → Halving s stop low mid over l p a b
 
-pub half-start : (s : Bytes) (stop low from mid over : ℕ) (l : List ℕ) (p : Part) → Reached s stop low from l p → Stretch s from mid → Stretch s mid over → over ≤ stop →
+pub half-start : (s : Bytes) (stop low from mid over : ℕ) (l : List ℕ) (p : Part) → WalkedTo s stop low from l p → Stretch s from mid → Stretch s mid over → over ≤ stop →
     Halving s stop low mid over l p from mid
-half-start s stop low from mid over l p (reached ps rest x y k) t u h =
+half-start s stop low from mid over l p (walked ps rest x y k) t u h =
     let m : mid ≤ over = messages-ahead (u .messages) in
     let v = messages-split (t .messages) y (omega arith) in
     let e : rest ≡ t .xs ++ v .rest = messages-same y (messages-append (t .messages) (v .ahead)) in
@@ -522,11 +545,11 @@ module _ (s : Bytes) (stop low mid over : ℕ) (l : List ℕ) (p : Part) (a b : 
   both-again (halves t) h k x e y f m q (keep.TakenTwo.both n r d g) =
       rw (e, f) (halves (second-halved s stop low mid over n r (a + sizeAt s a) b (first-halved s stop low mid over l p a b t h n r d) k m q g))
 
-  pub half-reached : Halving s stop low mid over l p a b → mid ≤ a → Reached s stop low b l p
+  pub half-reached : Halving s stop low mid over l p a b → mid ≤ a → WalkedTo s stop low b l p
   half-reached (halves t) h =
       let e : a ≡ mid = omega (arith, messages-ahead (t .between)) in
       let n : t .mids ≡ [] = messages-same (rw e at (t .between)) done in
-      reached (t .ps ++ t .bs) (t .rest) (messages-append (rw e at (t .behind)) (t .half)) (t .ahead) (rw (append-assoc (t .ps) (t .bs) (t .rest)) (rw n at (t .holds)))
+      walked (t .ps ++ t .bs) (t .rest) (messages-append (rw e at (t .behind)) (t .half)) (t .ahead) (rw (append-assoc (t .ps) (t .bs) (t .rest)) (rw n at (t .holds)))
 
   pub half-stretch : Halving s stop low mid over l p a b → Stretch s b over
   half-stretch (halves t) = t .stretch
@@ -592,15 +615,15 @@ module _ (s : Bytes) (stop : ℕ) (marks : List ℕ) (k : Marked s stop marks) (
   abbrev mark : ℕ → ℕ
   mark i = getD marks (5 * c + i) 0
 
-  chunk : Reached s stop low (getD marks (5 * c) 0) l p → Chunk s stop (getD marks (5 * c) 0) (mark 1) (mark 2) (mark 3) (mark 4)
-  chunk (reached ps rest x y t) = k .each c h (λ z. omega (arith, messages-ahead x, z))
+  chunk : WalkedTo s stop low (getD marks (5 * c) 0) l p → Chunk s stop (getD marks (5 * c) 0) (mark 1) (mark 2) (mark 3) (mark 4)
+  chunk (walked ps rest x y t) = k .each c h (λ z. omega (arith, messages-ahead x, z))
 
   pub chunk-in : (i : ℕ) → i < 5 → 5 * c + i < length marks
   chunk-in i z = omega (arith, k .long)
 
-  pub chunk-clears : Reached s stop low (getD marks (5 * c) 0) l p → Clears s low p (mark 3) (mark 4)
-  chunk-clears (reached ps rest x y t) =
-      let d = chunk (reached ps rest x y t) in
+  pub chunk-clears : WalkedTo s stop low (getD marks (5 * c) 0) l p → Clears s low p (mark 3) (mark 4)
+  chunk-clears (walked ps rest x y t) =
+      let d = chunk (walked ps rest x y t) in
       record {
         low-bound = t .low-bound;
         top-bound = top-good s stop (ps ++ rest) (messages-append x y) low (p .top) (t .top);
@@ -609,22 +632,22 @@ module _ (s : Bytes) (stop : ℕ) (marks : List ℕ) (k : Marked s stop marks) (
         most-good = d .most-good;
       }
 
-  pub chunk-first : Reached s stop low (getD marks (5 * c) 0) l p → Stretch s (getD marks (5 * c) 0) (mark 1)
+  pub chunk-first : WalkedTo s stop low (getD marks (5 * c) 0) l p → Stretch s (getD marks (5 * c) 0) (mark 1)
   chunk-first r = chunk r .first
 
-  pub chunk-second : Reached s stop low (getD marks (5 * c) 0) l p → Stretch s (mark 1) (mark 2)
+  pub chunk-second : WalkedTo s stop low (getD marks (5 * c) 0) l p → Stretch s (mark 1) (mark 2)
   chunk-second r = chunk r .second
 
-  pub chunk-within : Reached s stop low (getD marks (5 * c) 0) l p → mark 2 ≤ stop
+  pub chunk-within : WalkedTo s stop low (getD marks (5 * c) 0) l p → mark 2 ≤ stop
   chunk-within r = chunk r .within
 
-  pub chunk-passed : Reached s stop low (getD marks (5 * c) 0) l p → (r : Bool) → Clear s low (p .top) (mark 3) (mark 4) r → r ≡ true → Reached s stop low (mark 2) l p
-  chunk-passed (reached ps rest x y t) r d f =
-      let u = chunk (reached ps rest x y t) in
+  pub chunk-passed : WalkedTo s stop low (getD marks (5 * c) 0) l p → (r : Bool) → Clear s low (p .top) (mark 3) (mark 4) r → r ≡ true → WalkedTo s stop low (mark 2) l p
+  chunk-passed (walked ps rest x y t) r d f =
+      let u = chunk (walked ps rest x y t) in
       let v = messages-split (u .messages) y (u .within) in
       let e : rest ≡ u .cs ++ v .rest = messages-same y (messages-append (u .messages) (v .ahead)) in
       let z : (ps ++ u .cs) ++ v .rest ≡ ps ++ rest = append-assoc ps (u .cs) (v .rest) ∙ ap (λ (w : List ℕ). ps ++ w) (sym e) in
-      reached (ps ++ u .cs) (v .rest) (messages-append x (u .messages)) (v .ahead) (rw z (record {
+      walked (ps ++ u .cs) (v .rest) (messages-append x (u .messages)) (v .ahead) (rw z (record {
         low-bound = t .low-bound;
         fronts = t .fronts;
         len = t .len;
@@ -666,7 +689,7 @@ collect-small l c at r d f = small-chunk l c at (sym d ∙ f)
 -- ---- collect: the messages before `at` are met
 
 pub data Collecting (s : Bytes) (stop low : ℕ) (marks l : List ℕ) (p : Part) (at c : ℕ) : Type 0 where
-  collects : Reached s stop low at l p → Marked s stop marks → Collecting s stop low marks l p at c
+  collects : WalkedTo s stop low at l p → Marked s stop marks → Collecting s stop low marks l p at c
 
 start-top : (s : Bytes) (stop low first : ℕ) (xs : List ℕ) → Messages s 8 xs stop → Tops s stop low first → TopIs s xs low first
 start-top s stop low first xs m (map.all e) = all e
@@ -686,7 +709,7 @@ module _ (s : Bytes) (stop low first : ℕ) (t : Told s stop low) (o : Tops s st
   pub collect-start : (marks l : List ℕ) → Marked s stop marks → length l ≡ 6_000 → (p : Part) → p .n ≡ 0 → p .top ≡ first → Fronts s low p →
       Collecting s stop low marks l p 8 0
   collect-start marks l k e p n d f = collects
-      (reached [] (t .xs) done (t .messages) (record {
+      (walked [] (t .xs) done (t .messages) (record {
         low-bound = t .bound;
         fronts = f;
         len = e;
@@ -708,21 +731,21 @@ module _ (s : Bytes) (stop low : ℕ) (marks l : List ℕ) (p : Part) (at c : �
   unfolding isChunk
   collect-at d h = eqb-true (getD marks (5 * c) 0) at (rw (lt-leb 128 c h) at d)
 
-  pub collect-reached : Collecting s stop low marks l p at c → (r : Bool) → r ≡ isChunk marks c at → r ≡ true → Reached s stop low (getD marks (5 * c) 0) l p
+  pub collect-reached : Collecting s stop low marks l p at c → (r : Bool) → r ≡ isChunk marks c at → r ≡ true → WalkedTo s stop low (getD marks (5 * c) 0) l p
   collect-reached (collects t k) r d f = rw (collect-at (sym d ∙ f) (small-chunk marks c at (sym d ∙ f))) t
 
-  pub collect-again : Collecting s stop low marks l p at c → (m : List ℕ) (q : Part) → Reached s stop low (getD marks (5 * c + 2) 0) m q → (n : ℕ) → n ≡ getD marks (5 * c + 2) 0 →
+  pub collect-again : Collecting s stop low marks l p at c → (m : List ℕ) (q : Part) → WalkedTo s stop low (getD marks (5 * c + 2) 0) m q → (n : ℕ) → n ≡ getD marks (5 * c + 2) 0 →
       Collecting s stop low marks m q n (c + 1)
   collect-again (collects t k) m q h n e = collects (rw e h) k
 
-  pub collect-here : Collecting s stop low marks l p at c → Reached s stop low at l p
+  pub collect-here : Collecting s stop low marks l p at c → WalkedTo s stop low at l p
   collect-here (collects t k) = t
 
   pub collect-stretch : Collecting s stop low marks l p at c → Stretch s at stop
-  collect-stretch (collects (reached ps rest x y t) k) = record { xs = rest; messages = y }
+  collect-stretch (collects (walked ps rest x y t) k) = record { xs = rest; messages = y }
 
-pub collect-end : (s : Bytes) (stop low : ℕ) (l : List ℕ) (p : Part) → Reached s stop low stop l p → Collected s stop low l p
-collect-end s stop low l p (reached ps rest x y t) =
+pub collect-end : (s : Bytes) (stop low : ℕ) (l : List ℕ) (p : Part) → WalkedTo s stop low stop l p → Collected s stop low l p
+collect-end s stop low l p (walked ps rest x y t) =
     let n : rest ≡ [] = messages-same y done in
     let e : ps ++ rest ≡ ps = rw n (append-nil ps) in
     record {

@@ -15,7 +15,7 @@ use Rattle.heard.specs.Place.{Messages, done, more, Payload, sizeAt, precedes}
 use Rattle.batch.specs.declared.survey.Filled.{Filled}
 use Rattle.batch.specs.Next.{sorted}
 use Rattle.batch.specs.Keep.{In, Held, FirstSorted}
-use Rattle.batch.specs.Map.{Hint, HintAt, Hinted, Chunk, Marked, Stretch, FilledIs, Among, Drew, Draws, Drawn, Noted, Starts, Charted, Surveys, Surveyed, Lines, Mapped}
+use Rattle.batch.specs.Map.{Hint, HintAt, Hinted, Chunk, Marked, Stretch, FilledIs, Among, Drew, Draws, Drawn, CutAt, Noted, Starts, Charted, Surveys, Surveyed, Lines, Mapped}
 use Rattle.batch.specs.Map as map
 use Rattle.batch.proofs.Sorting.{All, cons, climbing-at, in-sorted, all-at, all-in, all-by, all-weak, all-sorted, Climbing, flat, up, climbing-sorted, length-sorted}
 use Rattle.batch.proofs.Precede.{never-self}
@@ -230,6 +230,15 @@ module _ (l : List ℕ) (c from mid over least most : ℕ) where
       others : (k : ℕ) → (k ≡ 5 * c + 4 → ⊥) → (k ≡ 5 * c + 3 → ⊥) → (k ≡ 5 * c + 2 → ⊥) → (k ≡ 5 * c + 1 → ⊥) → (k ≡ 5 * c → ⊥) → getD l₅ k 0 ≡ getD l k 0
       others k v w x y z = other₅ k v ∙ other₄ k w ∙ other₃ k x ∙ other₂ k y ∙ other₁ k z
 
+module _ (at mid r : ℕ) where
+  pub cut-start : r ≡ at → CutAt at mid r
+  cut-start e = map.start e
+
+  pub cut-middle : r ≡ mid → CutAt at mid r
+  cut-middle e = map.middle e
+
+pub ruleset cutting = (cut-start, cut-middle)
+
 pub ruleset noting = (note-done)
 
 -- ---- chart
@@ -302,12 +311,19 @@ module _ (s : Bytes) (stop at c : ℕ) (marks l : List ℕ) (t : Starts s stop a
           let e : getD (u .cs) (f .n / 2) 0 ≡ getD m (f .n / 2) 0 = ap (λ (y : List ℕ). getD y (f .n / 2) 0) (sym (u .is)) ∙ getD-take (f .n) m (f .n / 2) 0 h in
           rw e at (messages-halves (u .messages) (f .n / 2) (omega (arith, n)))
 
-      chunk : Chunk s stop at (getD m (f .n / 2) 0) (f .over) (getD k 0 0) (getD k (f .n - 1) 0)
-      chunk = record {
+      pub chart-there : f .n / 2 < length k
+      chart-there = omega (arith, chart-some, chart-long, u .few)
+
+      cut-halves : (r : ℕ) → CutAt at (getD m (f .n / 2) 0) r → Halves s at r (f .over)
+      cut-halves r (map.start e) = rw e (record { first = record { xs = []; messages = done }; second = record { xs = u .cs; messages = u .messages } })
+      cut-halves r (map.middle e) = rw e halves
+
+      chunk : (r : ℕ) → CutAt at (getD m (f .n / 2) 0) r → Chunk s stop at r (f .over) (getD k 0 0) (getD k (f .n - 1) 0)
+      chunk r d = record {
         cs = u .cs;
         messages = u .messages;
-        first = halves .first;
-        second = halves .second;
+        first = cut-halves r d .first;
+        second = cut-halves r d .second;
         within = messages-ahead (u .ahead);
         least-good = good-at 0 (omega (arith, chart-some));
         most-good = good-at (f .n - 1) (omega (arith, chart-some));
@@ -315,8 +331,8 @@ module _ (s : Bytes) (stop at c : ℕ) (marks l : List ℕ) (t : Starts s stop a
         highest = λ x i. rw (at-place (f .n - 1) (omega (arith, chart-some))) (in-all (in-sorted s i) (rw count at (last-highest s (climbing-sorted s (u .cs)) (omega (arith, count, chart-some)))));
       }
 
-      pub chart-done : (n : List ℕ) → Noted marks c at (getD m (f .n / 2) 0) (f .over) (getD k 0 0) (getD k (f .n - 1) 0) n → Charted s stop at n k f
-      chart-done n w = record {
+      pub chart-done : (r : ℕ) → CutAt at (getD m (f .n / 2) 0) r → (n : List ℕ) → Noted marks c at r (f .over) (getD k 0 0) (getD k (f .n - 1) 0) n → Charted s stop at n k f
+      chart-done r d n w = record {
         cs = u .cs;
         messages = u .messages;
         stretch = record { xs = u .rest; messages = u .ahead };
@@ -334,11 +350,11 @@ module _ (s : Bytes) (stop at c : ℕ) (marks l : List ℕ) (t : Starts s stop a
 
           mark : (b : ℕ) → b < 128 → (getD n (5 * b) 0 ≡ 0 → ⊥) → Dec (b ≡ c) → Dec (b ≤ c) →
               Chunk s stop (getD n (5 * b) 0) (getD n (5 * b + 1) 0) (getD n (5 * b + 2) 0) (getD n (5 * b + 3) 0) (getD n (5 * b + 4) 0)
-          mark b h z (yes e) d = rw (e, w .from-is, w .mid-is, w .over-is, w .least-is, w .most-is) chunk
+          mark b h z (yes e) v = rw (e, w .from-is, w .mid-is, w .over-is, w .least-is, w .most-is) (chunk r d)
           mark b h z (no e) (yes d) = same b h z (λ j y. w .before (5 * b + j) (omega arith)) (w .before (5 * b) (omega arith))
           mark b h z (no e) (no d) = same b h z (λ j y. w .behind (5 * b + j) (omega arith)) (w .behind (5 * b) (omega arith))
 
-pub ruleset charting = (chart-stretch, chart-len, chart-marks, chart-small, chart-few, chart-some, chart-mid, chart-held, chart-long, chart-first, chart-last, chart-done)
+pub ruleset charting = (chart-stretch, chart-len, chart-marks, chart-small, chart-few, chart-some, chart-mid, chart-held, chart-long, chart-first, chart-last, chart-there, chart-done)
 
 -- ---- chunks
 

@@ -109,12 +109,21 @@ pub data Trimmed (s : Bytes) (low : ℕ) (l₀ : List ℕ) (p₀ : Part) (l : Li
   kept : p₀ .n < 6_000 → l ≡ l₀ → p ≡ p₀ → Trimmed s low l₀ p₀ l p
   cut : p₀ .n ≡ 6_000 → SortedIs s l₀ l → p .n ≡ 4_500 → p .top ≡ getD l 4_499 0 → Fronts s low p → Trimmed s low l₀ p₀ l p
 
--- what is asked for a message to be taken in
-pub record Takes (s : Bytes) (low at : ℕ) (l : List ℕ) (p : Part) : Type 0 where
+-- what is asked for a message to be passed over by its front
+pub record Meets (s : Bytes) (low at : ℕ) (p : Part) : Type 0 where
   pub low-bound : Bound s low
   pub top-bound : Bound s (p .top)
   pub fronts : Fronts s low p
   pub good : Payload s at
+
+-- it is not wanted, or nothing is known
+pub data Passed (s : Bytes) (low at : ℕ) (p : Part) : Bool → Type 0 where
+  surely : isWanted s low (p .top) at ≡ false → Passed s low at p true
+  unsure : Passed s low at p false
+
+-- what is asked for a message to be taken in
+pub record Takes (s : Bytes) (low at : ℕ) (l : List ℕ) (p : Part) : Type 0 where
+  pub meets : Meets s low at p
   pub len : length l ≡ 6_000
   pub room : p .n < 6_000
   pub held : (k : ℕ) → k < p .n → Payload s (getD l k 0)
@@ -150,8 +159,8 @@ pub record Holds (s : Bytes) (xs ws : List ℕ) (low : ℕ) (l : List ℕ) (p : 
   pub top : TopIs s xs low (p .top)
 
 -- of the messages up to `stop` those before `at` are met
-pub data Reached (s : Bytes) (stop low at : ℕ) (l : List ℕ) (p : Part) : Type 0 where
-  reached : (ps rest : List ℕ) → Messages s 8 ps at → Messages s at rest stop → Holds s (ps ++ rest) ps low l p → Reached s stop low at l p
+pub data WalkedTo (s : Bytes) (stop low at : ℕ) (l : List ℕ) (p : Part) : Type 0 where
+  walked : (ps rest : List ℕ) → Messages s 8 ps at → Messages s at rest stop → Holds s (ps ++ rest) ps low l p → WalkedTo s stop low at l p
 
 -- the buffer holds, in some order, the messages up to `stop` behind `low` and not behind the top
 pub record Collected (s : Bytes) (stop low : ℕ) (l : List ℕ) (p : Part) : Type 0 where

@@ -114,6 +114,11 @@ pub record Drawn (b : List ℕ) (n : ℕ) (l₀ : List ℕ) (held : ℕ) (l : Li
   pub before : (k : ℕ) → k < held → getD l k 0 ≡ getD l₀ k 0
   pub fresh : (k : ℕ) → held ≤ k → k < r → Among b n (getD l k 0)
 
+-- at the start, or at `mid`
+pub data CutAt (at mid r : ℕ) : Type 0 where
+  start : r ≡ at → CutAt at mid r
+  middle : r ≡ mid → CutAt at mid r
+
 -- a chunk is written down
 pub record Noted (l₀ : List ℕ) (c from mid over least most : ℕ) (l : List ℕ) : Type 0 where
   pub long : length l ≡ length l₀

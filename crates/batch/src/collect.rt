@@ -11,7 +11,7 @@ ghost use Rattle.heard.specs.Place.{Payload, sizeAt};
 ghost use Rattle.heard.specs.Compare.{FrontOf};
 ghost use Rattle.batch.specs.Next.{isAbove};
 ghost use Rattle.batch.specs.Map.{Marked, Stretch, Tops, Clears, Clear, isChunk};
-ghost use Rattle.batch.specs.Keep.{Bound, isUpTo, isWanted, frontOr, Sifted, Fronts, Trims, Trimmed, Takes, Taken, TakesTwo, TakenTwo, Told, Reached, Collected};
+ghost use Rattle.batch.specs.Keep.{Bound, isUpTo, isWanted, frontOr, Sifted, Fronts, Trims, Trimmed, Meets, Passed, Takes, Taken, TakesTwo, TakenTwo, Told, WalkedTo, Collected};
 
 pub struct Part {
     // How many offsets the buffer holds.
@@ -99,12 +99,20 @@ fn trim(s: &[u8], low: usize, buf: &mut [usize; 6000], p: Part) -> Part
     part_of(s, low, 4500, buf[4499])
 }
 
-// A message with this front is taken in, where it is to be held.
-fn take_in(s: &[u8], low: usize, at: usize, front: usize, buf: &mut [usize; 6000], p: Part) -> Part
-    requires { ⌜ Takes (now s) low at (now buf) p × FrontOf (now s) front at ⌝ }
+// Whether a message is surely not to be held, by its front alone: so are most.
+fn is_passed(s: &[u8], low: usize, at: usize, p: Part) -> bool
+    requires { ⌜ Meets (now s) low at p ⌝ }
+    ensures { λ r. ⌜ Passed (now (s .entry)) low at p r ⌝ }
+{
+    !is_among(front_at(s, at), p.least, p.most)
+}
+
+// A message is taken in, where it is to be held.
+fn take_in(s: &[u8], low: usize, at: usize, buf: &mut [usize; 6000], p: Part) -> Part
+    requires { ⌜ Takes (now s) low at (now buf) p ⌝ }
     ensures { λ r. ⌜ Taken (now (s .entry)) low at (now (buf .entry)) p (now (buf .exit)) r ⌝ }
 {
-    if is_wanted(s, low, p, front, at) {
+    if is_wanted(s, low, p, front_at(s, at), at) {
         let n = p.n;
         buf[n] = at;
         let more = Part {
@@ -118,25 +126,18 @@ fn take_in(s: &[u8], low: usize, at: usize, front: usize, buf: &mut [usize; 6000
     p
 }
 
-// A message is met: most are passed over by their fronts alone.
-fn meet(s: &[u8], low: usize, at: usize, buf: &mut [usize; 6000], p: Part) -> Part
-    requires { ⌜ Takes (now s) low at (now buf) p ⌝ }
-    ensures { λ r. ⌜ Taken (now (s .entry)) low at (now (buf .entry)) p (now (buf .exit)) r ⌝ }
-{
-    let front = front_at(s, at);
-    if is_among(front, p.least, p.most) {
-        return take_in(s, low, at, front, buf, p);
-    }
-    p
-}
-
-// Two messages are met, one after the other.
-fn meet_two(s: &[u8], low: usize, a: usize, b: usize, buf: &mut [usize; 6000], p: Part) -> Part
+// Two messages are taken in, one after the other.
+fn take_two(s: &[u8], low: usize, a: usize, b: usize, buf: &mut [usize; 6000], p: Part) -> Part
     requires { ⌜ TakesTwo (now s) low a b (now buf) p ⌝ }
     ensures { λ r. ⌜ TakenTwo (now (s .entry)) low a b (now (buf .entry)) p (now (buf .exit)) r ⌝ }
 {
-    let q = meet(s, low, a, buf, p);
-    meet(s, low, b, buf, q)
+    if is_passed(s, low, a, p) {
+        if is_passed(s, low, b, p) {
+            return p;
+        }
+    }
+    let q = take_in(s, low, a, buf, p);
+    take_in(s, low, b, buf, q)
 }
 
 // Where the message behind the one at `at` starts.
@@ -157,14 +158,18 @@ fn walk(
     buf: &mut [usize; 6000],
     start: Part,
 ) -> Part
-    requires { ⌜ Reached (now s) stop low from (now buf) start × Stretch (now s) from over × (over ≤ stop) ⌝ }
-    ensures { λ r. ⌜ Reached (now (s .entry)) stop low over (now (buf .exit)) r ⌝ }
+    requires { ⌜ WalkedTo (now s) stop low from (now buf) start × Stretch (now s) from over × (over ≤ stop) ⌝ }
+    ensures { λ r. ⌜ WalkedTo (now (s .entry)) stop low over (now (buf .exit)) r ⌝ }
 {
     let mut p = start;
     let mut at = from;
     while at < over {
         let next = behind(s, at, over);
-        p = meet(s, low, at, buf, p);
+        if is_passed(s, low, at, p) {
+            at = next;
+            continue;
+        }
+        p = take_in(s, low, at, buf, p);
         at = next;
     }
     p
@@ -181,8 +186,8 @@ fn walk_halves(
     buf: &mut [usize; 6000],
     start: Part,
 ) -> Part
-    requires { ⌜ Reached (now s) stop low from (now buf) start × Stretch (now s) from mid × Stretch (now s) mid over × (over ≤ stop) ⌝ }
-    ensures { λ r. ⌜ Reached (now (s .entry)) stop low over (now (buf .exit)) r ⌝ }
+    requires { ⌜ WalkedTo (now s) stop low from (now buf) start × Stretch (now s) from mid × Stretch (now s) mid over × (over ≤ stop) ⌝ }
+    ensures { λ r. ⌜ WalkedTo (now (s .entry)) stop low over (now (buf .exit)) r ⌝ }
 {
     let mut p = start;
     let mut a = from;
@@ -190,12 +195,12 @@ fn walk_halves(
     while a < mid {
         let x = behind(s, a, mid);
         if over <= b {
-            p = meet(s, low, a, buf, p);
+            p = take_in(s, low, a, buf, p);
             a = x;
             continue;
         }
         let y = behind(s, b, over);
-        p = meet_two(s, low, a, b, buf, p);
+        p = take_two(s, low, a, b, buf, p);
         a = x;
         b = y;
     }
@@ -223,8 +228,8 @@ fn walk_chunk(
     buf: &mut [usize; 6000],
     p: Part,
 ) -> Part
-    requires { ⌜ Marked (now s) stop (now marks) × (c < 128) × Reached (now s) stop low (getD (now marks) (5 * c) 0) (now buf) p ⌝ }
-    ensures { λ r. ⌜ Reached (now (s .entry)) stop low (getD (now (marks .entry)) (5 * c + 2) 0) (now (buf .exit)) r ⌝ }
+    requires { ⌜ Marked (now s) stop (now marks) × (c < 128) × WalkedTo (now s) stop low (getD (now marks) (5 * c) 0) (now buf) p ⌝ }
+    ensures { λ r. ⌜ WalkedTo (now (s .entry)) stop low (getD (now (marks .entry)) (5 * c + 2) 0) (now (buf .exit)) r ⌝ }
 {
     if is_clear(s, low, p, marks[5 * c + 3], marks[5 * c + 4]) {
         return p;

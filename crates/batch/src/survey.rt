@@ -4,7 +4,7 @@ use heard::place::size_at;
 ghost use mathlib.Core.Path.{_≡_};
 ghost use Prim.Native.Nat.{_≤_, _<_};
 ghost use lib.ListN.{length};
-ghost use Rattle.batch.specs.Map.{Hinted, Stretch, FilledIs, Draws, Drawn, Noted, Starts, Charted, Surveys, Surveyed, Lines, Mapped};
+ghost use Rattle.batch.specs.Map.{Hinted, Stretch, FilledIs, Draws, Drawn, CutAt, Noted, Starts, Charted, Surveys, Surveyed, Lines, Mapped};
 
 pub struct Filled {
     // How many offsets the buffer holds.
@@ -77,6 +77,16 @@ fn note(
     marks[5 * c + 4] = most;
 }
 
+// Where a chunk is cut in two. One that ascends is not, so that its messages are met in order; its middle one stays where it is.
+fn cut_at(at: usize, mid: usize, sorted: usize) -> usize
+    ensures { λ r. ⌜ CutAt at mid r ⌝ }
+{
+    if mid == sorted {
+        return at;
+    }
+    mid
+}
+
 // Chunk c, which starts at `at`: its messages stand in the buffer then, in message order.
 fn chart(
     s: &[u8],
@@ -93,7 +103,8 @@ fn chart(
     let n = f.n;
     let mid = buf[n / 2];
     sort_first(s, &mut buf[..], n);
-    note(marks, c, at, mid, f.over, buf[0], buf[n - 1]);
+    let cut = cut_at(at, mid, buf[n / 2]);
+    note(marks, c, at, cut, f.over, buf[0], buf[n - 1]);
     f
 }
 

@@ -3,6 +3,9 @@ use Rattle.batch.proofs.Collecting.{takings}
 use Rattle.batch.proofs.collect.take_in.Statement.{statement}
 use Rattle.batch.proofs.collect.take_in.Tie as tie
 
+front-at-requires : tie.Need-front-at-requires
+front-at-requires c κs = search (takings, needs)
+
 is-wanted-requires : tie.Need-is-wanted-requires
 is-wanted-requires c κs = search (takings, needs)
 
@@ -27,4 +30,12 @@ returns-2 c = search (takings, needs)
 pub take-in-spec : {M : Type 1} → statement M
 take-in-spec =
     tie.close
-    (tie.spec is-wanted-requires mul-buf element-write-buf add-t10 trim-requires returns returns-2)
+    (tie.spec
+    front-at-requires
+    is-wanted-requires
+    mul-buf
+    element-write-buf
+    add-t10
+    trim-requires
+    returns
+    returns-2)

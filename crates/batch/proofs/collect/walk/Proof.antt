@@ -17,14 +17,23 @@ loop-holds c = search (walking, needs)
 behind-requires : tie.Need-behind-requires Inv-loop μ-loop
 behind-requires c κs = search (walking, needs)
 
-meet-requires : tie.Need-meet-requires Inv-loop μ-loop
-meet-requires c κs = search (walking, needs)
+is-passed-requires : tie.Need-is-passed-requires Inv-loop μ-loop
+is-passed-requires c κs = search (walking, needs)
 
 loop-less : tie.Need-loop-less Inv-loop μ-loop
 loop-less c = search (walking, needs)
 
 loop-again : tie.Need-loop-again Inv-loop μ-loop
 loop-again c = search (walking, needs)
+
+take-in-requires : tie.Need-take-in-requires Inv-loop μ-loop
+take-in-requires c κs = search (walking, needs)
+
+loop-less-2 : tie.Need-loop-less-2 Inv-loop μ-loop
+loop-less-2 c = search (walking, needs)
+
+loop-again-2 : tie.Need-loop-again-2 Inv-loop μ-loop
+loop-again-2 c = search (walking, needs)
 
 returns : tie.Need-returns Inv-loop μ-loop
 returns c = search (walking, needs)
@@ -37,7 +46,10 @@ walk-spec =
     μ-loop
     loop-holds
     behind-requires
-    meet-requires
+    is-passed-requires
     loop-less
     loop-again
+    take-in-requires
+    loop-less-2
+    loop-again-2
     returns)

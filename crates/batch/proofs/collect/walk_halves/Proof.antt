@@ -17,8 +17,8 @@ loop-holds c = search (halving, needs)
 behind-requires : tie.Need-behind-requires Inv-loop μ-loop
 behind-requires c κs = search (halving, needs)
 
-meet-requires : tie.Need-meet-requires Inv-loop μ-loop
-meet-requires c κs = search (halving, needs)
+take-in-requires : tie.Need-take-in-requires Inv-loop μ-loop
+take-in-requires c κs = search (halving, needs)
 
 loop-less : tie.Need-loop-less Inv-loop μ-loop
 loop-less c = search (halving, needs)
@@ -29,8 +29,8 @@ loop-again c = search (halving, needs)
 behind-requires-2 : tie.Need-behind-requires-2 Inv-loop μ-loop
 behind-requires-2 c κs = search (halving, needs)
 
-meet-two-requires : tie.Need-meet-two-requires Inv-loop μ-loop
-meet-two-requires c κs = search (halving, needs)
+take-two-requires : tie.Need-take-two-requires Inv-loop μ-loop
+take-two-requires c κs = search (halving, needs)
 
 loop-less-2 : tie.Need-loop-less-2 Inv-loop μ-loop
 loop-less-2 c = search (halving, needs)
@@ -52,11 +52,11 @@ walk-halves-spec =
     μ-loop
     loop-holds
     behind-requires
-    meet-requires
+    take-in-requires
     loop-less
     loop-again
     behind-requires-2
-    meet-two-requires
+    take-two-requires
     loop-less-2
     loop-again-2
     walk-requires

@@ -15,6 +15,15 @@ element-copy-out-mid c = search (charting, needs)
 sort-first-requires : tie.Need-sort-first-requires
 sort-first-requires c κs = search (charting, needs)
 
+mul-cut-at : tie.Need-mul-cut-at
+mul-cut-at c = search (charting, needs)
+
+element-copy-out-cut-at : tie.Need-element-copy-out-cut-at
+element-copy-out-cut-at c = search (charting, needs)
+
+cut-at-requires : tie.Need-cut-at-requires
+cut-at-requires c κs = search (charting, needs)
+
 element-copy-out-note : tie.Need-element-copy-out-note
 element-copy-out-note c = search (charting, needs)
 
@@ -41,6 +50,9 @@ chart-spec =
     mul-mid
     element-copy-out-mid
     sort-first-requires
+    mul-cut-at
+    element-copy-out-cut-at
+    cut-at-requires
     element-copy-out-note
     sub-note
     mul-note
