@@ -1,7 +1,7 @@
 use borrow.Author.Needs.{needs}
 use Rattle.heard.proofs.Comparing.{sixes}
-use Rattle.heard.proofs.compare.compare_six.Statement.{statement}
-use Rattle.heard.proofs.compare.compare_six.Tie as tie
+use Rattle.heard.proofs.compare.is_before_six.Statement.{statement}
+use Rattle.heard.proofs.compare.is_before_six.Tie as tie
 
 add-word-at : tie.Need-add-word-at
 add-word-at c = search (sixes, needs)
@@ -27,14 +27,14 @@ six-last-requires c κs = search (sixes, needs)
 six-last-requires-2 : tie.Need-six-last-requires-2
 six-last-requires-2 c κs = search (sixes, needs)
 
-compare-numbers-requires : tie.Need-compare-numbers-requires
-compare-numbers-requires c κs = search (sixes, needs)
+is-below-requires : tie.Need-is-below-requires
+is-below-requires c κs = search (sixes, needs)
 
 returns-3 : tie.Need-returns-3
 returns-3 c = search (sixes, needs)
 
-pub compare-six-spec : {M : Type 1} → statement M
-compare-six-spec =
+pub is-before-six-spec : {M : Type 1} → statement M
+is-before-six-spec =
     tie.close
     (tie.spec
     add-word-at
@@ -45,5 +45,5 @@ compare-six-spec =
     returns-2
     six-last-requires
     six-last-requires-2
-    compare-numbers-requires
+    is-below-requires
     returns-3)
