@@ -19,13 +19,16 @@ use Rattle.heard.proofs.Comparing.{front-before, front-behind}
 use Rattle.batch.specs.declared.collect.Part.{Part}
 use Rattle.batch.specs.declared.collect.Gap.{Gap}
 use Rattle.batch.specs.declared.next.Batch.{Batch}
-use Rattle.batch.specs.Next.{sorted, isAbove, left, NextIs}
-use Rattle.batch.specs.Keep.{only, isUpTo, isWanted, frontOr, In, Bound, none, one, Held, SortedIs, FirstSorted, Told, Trims, Trimmed, kept, cut, Takes, Taken, TopIs, all, Collected}
+use Rattle.sorting.specs.Sorted.{sorted}
+use Rattle.batch.specs.Next.{isAbove, left, NextIs}
+use Rattle.sorting.specs.Sort.{Held, SortedIs, FirstSorted}
+use Rattle.batch.specs.Keep.{only, isUpTo, isWanted, frontOr, In, Bound, none, one, Told, Trims, Trimmed, kept, cut, Takes, Taken, TopIs, all, Collected}
 use Rattle.batch.specs.Keep as keep
 use Rattle.batch.specs.Map.{Hint, Hinted, Chunk, Marked, Tops, Clears, Clear, Skips, Passes}
 use Rattle.batch.specs.Map as map
-use Rattle.batch.proofs.Precede.{true≢false, not-above-trans}
-use Rattle.batch.proofs.Sorting.{all-at, sorted-more, only-sorted, length-sorted, insert-comm}
+use Rattle.sorting.proofs.Precede.{true≢false, not-above-trans}
+use Rattle.sorting.proofs.Sorting.{all-at, sorted-more, length-sorted, insert-comm}
+use Rattle.batch.proofs.Sorting.{only-sorted}
 use Rattle.batch.proofs.Keeping.{size-some, messages-ahead, messages-from, messages-grow, messages-good, messages-append, messages-same, in-all, in-append, wanted-is, wanted-all, wanted-not, wanted-past, messages-split, only-clear, upto-all, upto-self, only-more, only-past, only-length, only-same, above-only, fall-top, lower-again, part-first, part-shorter}
 
 -- ---- is_above, is_up_to, is_wanted

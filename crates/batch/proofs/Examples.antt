@@ -6,7 +6,8 @@ use mathlib.Core.Bool.{true, false}
 use lib.ListN.{replicate}
 use Rattle.payload.specs.Content.{Bytes}
 use Rattle.heard.specs.Place.{keyAt, precedes}
-use Rattle.batch.specs.Next.{insert, sorted, isAbove, above, left}
+use Rattle.sorting.specs.Sorted.{insert, sorted}
+use Rattle.batch.specs.Next.{isAbove, above, left}
 use Rattle.batch.specs.Keep.{only, isUpTo, isWanted}
 
 abbrev one : ℕ → ℕ → Bytes

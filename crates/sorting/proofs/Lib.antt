@@ -1,0 +1,6 @@
+pub mod Precede
+pub mod Sorting
+pub mod Settling
+pub mod Merging
+pub mod Joining
+pub mod Examples
