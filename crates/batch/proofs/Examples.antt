@@ -17,10 +17,6 @@ abbrev s : Bytes
 s = replicate 8 0 ++ (one 192 2 ++ (one 10 0 ++ one 10 0))
 
 -- by the record, and of one record by the offset
-in-order : sorted s (8 ∷ 28 ∷ 48 ∷ []) ≡ 28 ∷ 48 ∷ 8 ∷ []
-unfolding sorted insert precedes keyAt
-in-order = refl
-
 all-left : left s 0 (8 ∷ 28 ∷ 48 ∷ []) ≡ 28 ∷ 48 ∷ 8 ∷ []
 unfolding sorted insert precedes keyAt isAbove above
 all-left = refl

@@ -1,5 +1,5 @@
 -- Laws of the sort: blocks, each merged into those before it.
-use Prim.Native.Nat.{ℕ, _+_, _-_, _*_, _/_, _≤_, _<_}
+use Prim.Native.Nat.{ℕ, _+_, _-_, _≤_, _<_}
 use mathlib.Core.Path.{_≡_, refl, sym, ap, subst, _∙_}
 use mathlib.Core.List.{List, _++_, append-nil}
 use mathlib.Core.Bool.{Bool, true, false}
@@ -10,10 +10,11 @@ use lib.Seq.{length-take-le, take-all, take-at, take-take, take-add, drop-at, dr
 use Rattle.payload.specs.Content.{Bytes}
 use Rattle.heard.specs.Place.{Payload, precedes}
 use Rattle.sorting.specs.Sorted.{sorted}
-use Rattle.sorting.specs.Sort.{Held, Climbs, Ascends, Halves, Extends, Merges, SortedIs, FirstSorted}
+use Rattle.sorting.specs.Sort.{Held, Climbs, Ascends, Block, Extends, Merges, RunsAre, Doubles, SortedIs, FirstSorted}
 use Rattle.sorting.proofs.Precede.{true≢false, not-above-trans}
-use Rattle.sorting.proofs.Sorting.{climbing-by, climbing-sorted, sorted-fixed, sorted-first, sorted-behind, length-sorted}
+use Rattle.sorting.proofs.Sorting.{climbing-by, sorted-fixed, sorted-first, sorted-behind, length-sorted}
 use Rattle.sorting.proofs.Merging.{sorted-is, held-take, held-drop, held-both}
+use Rattle.sorting.proofs.Running.{sorted-twice, run-only}
 
 -- ---- ascends
 
@@ -54,9 +55,6 @@ pub ruleset ascending = (ascend-start, ascend-some, ascend-here, ascend-last, as
 
 -- ---- extend: the others are sorted, and merged into the first m
 
-fixed : (s : Bytes) (l : List ℕ) → sorted s (sorted s l) ≡ sorted s l
-fixed s l = sorted-fixed s (climbing-sorted s l)
-
 module _ (s : Bytes) (l : List ℕ) (m : ℕ) (sp : List ℕ) (h : Extends s l m sp) where
   pub extend-start : m ≤ length l
   extend-start = omega (arith, h .within)
@@ -64,11 +62,8 @@ module _ (s : Bytes) (l : List ℕ) (m : ℕ) (sp : List ℕ) (h : Extends s l m
   others : take (length l - m) (drop m l) ≡ drop m l
   others = take-all (length l - m) (drop m l) (rw (length-drop m l) (omega arith))
 
-  pub extend-halves : Halves s (take (length l - m) (drop m l)) sp
-  extend-halves = rw others (record { held = held-drop s l m (h .held); room = rw (length-drop m l) (h .room) })
-
-  pub extend-less : (t : ℕ) → 2 * (length l - m) + 1 ≡ t → 2 * length (take (length l - m) (drop m l)) < t
-  extend-less t g = let z : length (take (length l - m) (drop m l)) ≡ length l - m = ap length others ∙ length-drop m l in omega (arith, g)
+  pub extend-block : Block s (take (length l - m) (drop m l)) sp
+  extend-block = rw others (record { held = held-drop s l m (h .held); small = rw (length-drop m l) (h .small); room = h .room })
 
   module _ (b : List ℕ) (e : SortedIs s (take (length l - m) (drop m l)) b) where
     behind : b ++ drop (length l - m) (drop m l) ≡ sorted s (drop m l)
@@ -91,60 +86,61 @@ module _ (s : Bytes) (l : List ℕ) (m : ℕ) (sp : List ℕ) (h : Extends s l m
     extend-merges sp' f = record {
       held = subst (Held s) (sym halved) (held-both s (take m l) (sorted s (drop m l)) (held-take s l m (h .held) extend-start) (sorted-is s (drop m l) (sorted s (drop m l)) (held-drop s l m (h .held)) refl .held));
       within = omega (arith, extend-long, h .within);
-      room = omega (arith, extend-long, h .room);
+      room = omega (arith, extend-long, h .small, h .room);
       left = rw (take-at (take m l) (b ++ drop (length l - m) (drop m l)) m first) (h .left);
-      right = rw (drop-at (take m l) (b ++ drop (length l - m) (drop m l)) m first, behind) (fixed s (drop m l));
+      right = rw (drop-at (take m l) (b ++ drop (length l - m) (drop m l)) m first, behind) (sorted-twice s (drop m l));
     }
 
     pub extend-done : (l' : List ℕ) → SortedIs s (take m l ++ (b ++ drop (length l - m) (drop m l))) l' → SortedIs s l l'
     extend-done l' d = record {
       held = d .held;
-      is = d .is ∙ ap (sorted s) halved ∙ sorted-behind s (take m l) (sorted s (drop m l)) (drop m l) (fixed s (drop m l)) ∙ ap (sorted s) (take-append-drop m l);
+      is = d .is ∙ ap (sorted s) halved ∙ sorted-behind s (take m l) (sorted s (drop m l)) (drop m l) (sorted-twice s (drop m l)) ∙ ap (sorted s) (take-append-drop m l);
     }
 
-pub ruleset extending = (extend-start, extend-halves, extend-less, extend-long, extend-merges, extend-done)
+pub ruleset extending = (extend-start, extend-block, extend-long, extend-merges, extend-done)
 
--- ---- sort_block: the first half, then the other
+-- ---- sort_block: from runs of 7 on, runs of the width w
 
-module _ (s : Bytes) (l sp : List ℕ) (h : Halves s l sp) where
-  pub block-held : Held s l
-  block-held = h .held
+pub record Widening (s : Bytes) (l₀ l sp : List ℕ) (w : ℕ) : Type 0 where
+  pub small : length l ≤ 448
+  pub long : length l ≡ length l₀
+  pub room : length sp ≡ 448
+  pub some : 1 ≤ w
+  pub are : RunsAre s l₀ w l
 
-  module _ (n : 7 < length l) where
-    pub block-half : length l / 2 ≤ length l
-    block-half = omega arith
+pub block-held : (s : Bytes) (l sp : List ℕ) → Block s l sp → Held s l
+block-held s l sp h = h .held
 
-    pub block-halves : Halves s (take (length l / 2) l) sp
-    block-halves = record { held = held-take s l (length l / 2) (h .held) block-half; room = rw (length-take-le (length l / 2) l block-half) (omega (arith, h .room)) }
+pub block-start : (s : Bytes) (l sp m : List ℕ) → Block s l sp → RunsAre s l 7 m → length m ≡ length l → Widening s m m sp 7
+block-start s l sp m h d e = record { small = omega (arith, h .small); long = refl; room = h .room; some = omega arith; are = record { held = d .held; same = refl; runs = d .runs } }
 
-    pub block-less : (t : ℕ) → 2 * length l ≡ t → 2 * length (take (length l / 2) l) < t
-    block-less t g = omega (arith, g, length-take-le (length l / 2) l block-half)
+module _ (s : Bytes) (l₀ l sp : List ℕ) (w : ℕ) (t : Widening s l₀ l sp w) where
+  pub block-long : length l ≡ length l₀
+  block-long = t .long
 
-    module _ (a : List ℕ) (e : SortedIs s (take (length l / 2) l) a) where
-      half : length a ≡ length l / 2
-      half = ap length (e .is) ∙ length-sorted s (take (length l / 2) l) ∙ length-take-le (length l / 2) l block-half
+  pub block-end : (k : List ℕ) → RunsAre s k 7 l₀ → length l ≤ w → SortedIs s k l
+  block-end k d h = record { held = t .are .held; is = sym (run-only s w (t .are .runs) h) ∙ t .are .same ∙ d .same }
 
-      pub block-long : length (a ++ drop (length l / 2) l) ≡ length l
-      block-long = let z : length (drop (length l / 2) l) ≡ length l - length l / 2 = length-drop (length l / 2) l in length-append a (drop (length l / 2) l) ∙ omega (arith, half, block-half)
+  module _ (h : w < length l) where
+    pub block-some : 1 ≤ w
+    block-some = t .some
 
-      pub block-less-behind : (t : ℕ) → 2 * length l ≡ t → 2 * (length (a ++ drop (length l / 2) l) - length l / 2) + 1 < t
-      block-less-behind t g = omega (arith, g, block-long)
+    pub block-small : w ≤ 448
+    block-small = omega (arith, t .small)
 
-      pub block-extends : (sp' : List ℕ) → length sp' ≡ length sp → Extends s (a ++ drop (length l / 2) l) (length l / 2) sp'
-      block-extends sp' f = record {
-        held = held-both s a (drop (length l / 2) l) (e .held) (held-drop s l (length l / 2) (h .held));
-        within = omega (arith, block-long);
-        room = omega (arith, block-long, h .room);
-        left = rw (take-at a (drop (length l / 2) l) (length l / 2) half, e .is) (fixed s (take (length l / 2) l));
-      }
+    pub block-doubles : Doubles s l w sp
+    block-doubles = record { held = t .are .held; runs = t .are .runs; some = t .some; small = block-small; room = t .room }
 
-      pub block-done : (l' : List ℕ) → SortedIs s (a ++ drop (length l / 2) l) l' → SortedIs s l l'
-      block-done l' d = record {
-        held = d .held;
-        is = d .is ∙ ap (λ (r : List ℕ). sorted s (r ++ drop (length l / 2) l)) (e .is) ∙ sorted-first s (take (length l / 2) l) (drop (length l / 2) l) ∙ ap (sorted s) (take-append-drop (length l / 2) l);
-      }
+    pub block-again : (m sp' : List ℕ) → RunsAre s l (w + w) m → length m ≡ length l → length sp' ≡ length sp → Widening s l₀ m sp' (w + w)
+    block-again m sp' d e f = record {
+      small = omega (arith, t .small);
+      long = e ∙ t .long;
+      room = f ∙ t .room;
+      some = omega (arith, t .some);
+      are = record { held = d .held; same = d .same ∙ t .are .same; runs = d .runs };
+    }
 
-pub ruleset halving = (length-take-le, block-held, block-half, block-halves, block-less, block-less-behind, block-long, block-extends, block-done)
+pub ruleset widening = (block-held, block-start, block-long, block-end, block-some, block-small, block-doubles, block-again)
 
 -- ---- sort: the first m are sorted
 
@@ -179,13 +175,13 @@ module _ (s : Bytes) (l₀ l sp : List ℕ) (m : ℕ) (t : Extending s l₀ l sp
   sort-within = omega (arith, t .within)
 
   in-order : sorted s (take m l) ≡ take m l
-  in-order = ap (sorted s) (t .first .is) ∙ fixed s (take m l₀) ∙ sym (t .first .is)
+  in-order = ap (sorted s) (t .first .is) ∙ sorted-twice s (take m l₀) ∙ sym (t .first .is)
 
   pub sort-long : length l ≡ length l₀
   sort-long = t .first .long
 
   pub sort-last : length l - m ≤ 448 → Extends s l m sp
-  sort-last h = record { held = t .held; within = t .within; room = omega (arith, t .spare); left = in-order }
+  sort-last h = record { held = t .held; within = t .within; small = h; room = t .spare; left = in-order }
 
   pub sort-end : (l' : List ℕ) → SortedIs s l l' → SortedIs s l₀ l'
   sort-end l' d = record { held = d .held; is = d .is ∙ first-all s l₀ l m (t .first) }
@@ -201,7 +197,8 @@ module _ (s : Bytes) (l₀ l sp : List ℕ) (m : ℕ) (t : Extending s l₀ l sp
     sort-extends = record {
       held = held-take s l (m + 448) (t .held) sort-part;
       within = omega (arith, part);
-      room = omega (arith, part, t .spare);
+      small = omega (arith, part);
+      room = t .spare;
       left = rw (take-take m (m + 448) l (omega arith)) in-order;
     }
 

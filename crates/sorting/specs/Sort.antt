@@ -68,15 +68,37 @@ pub record Merges (s : Bytes) (l : List ℕ) (m : ℕ) (spare : List ℕ) : Type
   pub left : sorted s (take m l) ≡ take m l
   pub right : sorted s (drop m l) ≡ drop m l
 
--- ---- what is merged
+-- ---- runs of a width
 
-pub record Halves (s : Bytes) (l spare : List ℕ) : Type 0 where
+-- each w of them are in order, and what is left at the end is
+pub data Runs (s : Bytes) (w : ℕ) : List ℕ → Type 0 where
+  last : {l : List ℕ} → length l ≤ w → sorted s l ≡ l → Runs s w l
+  more : {l : List ℕ} → w ≤ length l → sorted s (take w l) ≡ take w l → Runs s w (drop w l) → Runs s w l
+
+pub record RunsAre (s : Bytes) (l₀ : List ℕ) (w : ℕ) (l : List ℕ) : Type 0 where
   pub held : Held s l
-  pub room : length l ≤ length spare
+  pub same : sorted s l ≡ sorted s l₀
+  pub runs : Runs s w l
 
--- the first m are in order, and `spare` has room for the others
+-- two runs become one; `spare` has room for 448
+pub record Doubles (s : Bytes) (l : List ℕ) (w : ℕ) (spare : List ℕ) : Type 0 where
+  pub held : Held s l
+  pub runs : Runs s w l
+  pub some : 1 ≤ w
+  pub small : w ≤ 448
+  pub room : length spare ≡ 448
+
+-- ---- blocks of 448
+
+pub record Block (s : Bytes) (l spare : List ℕ) : Type 0 where
+  pub held : Held s l
+  pub small : length l ≤ 448
+  pub room : length spare ≡ 448
+
+-- the first m are in order, and the others a block
 pub record Extends (s : Bytes) (l : List ℕ) (m : ℕ) (spare : List ℕ) : Type 0 where
   pub held : Held s l
   pub within : m < length l
-  pub room : length l - m ≤ length spare
+  pub small : length l - m ≤ 448
+  pub room : length spare ≡ 448
   pub left : sorted s (take m l) ≡ take m l

@@ -1,11 +1,12 @@
-// Sorting offsets into message order: halves of blocks of 448 are merged, then each block into those before it.
+// Sorting offsets into message order: blocks of 448, each merged into those before it.
 use crate::merge::merge;
-use crate::settle::settle_all;
+use crate::runs::merge_runs;
+use crate::runs::settle_runs;
 use heard::compare::is_before;
 ghost use mathlib.Core.Path.{_≡_};
 ghost use Prim.Native.Nat.{_≤_, _<_};
 ghost use lib.ListN.{length, take};
-ghost use Rattle.sorting.specs.Sort.{Held, Ascends, Halves, Extends, SortedIs, FirstSorted};
+ghost use Rattle.sorting.specs.Sort.{Held, Ascends, Block, Extends, SortedIs, FirstSorted};
 
 // Whether they are in order already.
 fn ascends(s: &[u8], buf: &[usize]) -> bool
@@ -22,18 +23,17 @@ fn ascends(s: &[u8], buf: &[usize]) -> bool
     true
 }
 
-// No more than `spare` has room for: the first half, extended by the other.
+// At most 448: in runs of 7, and these merged to longer ones.
 fn sort_block(s: &[u8], buf: &mut [usize], spare: &mut [usize])
-    requires { ⌜ Halves (now s) (now buf) (now spare) ⌝ }
+    requires { ⌜ Block (now s) (now buf) (now spare) ⌝ }
     ensures { λ r. ⌜ SortedIs (now (s .entry)) (now (buf .entry)) (now (buf .exit)) ⌝ }
 {
-    if buf.len() <= 7 {
-        settle_all(s, buf);
-        return;
+    settle_runs(s, buf);
+    let mut w = 7;
+    while w < buf.len() {
+        merge_runs(s, buf, w, spare);
+        w += w;
     }
-    let m = buf.len() / 2;
-    sort_block(s, &mut buf[..m], spare);
-    extend(s, buf, m, spare);
 }
 
 // The first m are in order: the others are sorted and merged into them.
