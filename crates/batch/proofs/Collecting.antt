@@ -19,13 +19,16 @@ use Rattle.heard.specs.Compare.{FrontOf}
 use Rattle.heard.proofs.Comparing.{front-before, front-behind}
 use Rattle.batch.specs.declared.collect.Part.{Part}
 use Rattle.batch.specs.declared.next.Batch.{Batch}
-use Rattle.batch.specs.Next.{sorted, isAbove, left, NextIs}
-use Rattle.batch.specs.Keep.{only, isUpTo, isWanted, frontOr, In, Bound, none, one, Held, SortedIs, FirstSorted, Told, Fronts, Sifted, Trims, Trimmed, kept, cut, Meets, Passed, Takes, oneMore, Taken, TakesTwo, TakenTwo, TopIs, all, Holds, WalkedTo, walked, Collected}
+use Rattle.sorting.specs.Sorted.{sorted}
+use Rattle.sorting.specs.Sort.{Held, SortedIs, FirstSorted}
+use Rattle.batch.specs.Next.{isAbove, left, NextIs}
+use Rattle.batch.specs.Keep.{only, isUpTo, isWanted, frontOr, In, Bound, none, one, Told, Fronts, Sifted, Trims, Trimmed, kept, cut, Meets, Passed, Takes, oneMore, Taken, TakesTwo, TakenTwo, TopIs, all, Holds, WalkedTo, walked, Collected}
 use Rattle.batch.specs.Keep as keep
 use Rattle.batch.specs.Map.{Hint, Hinted, Stretch, Chunk, Marked, isChunk, Tops, Clears, Clear}
 use Rattle.batch.specs.Map as map
-use Rattle.batch.proofs.Precede.{true≢false, not-above-trans}
-use Rattle.batch.proofs.Sorting.{All, Growing, all-at, all-weak, all-in, sorted-mid, only-sorted, length-sorted}
+use Rattle.sorting.proofs.Precede.{true≢false, not-above-trans}
+use Rattle.sorting.proofs.Sorting.{All, all-at, all-weak, sorted-mid, length-sorted}
+use Rattle.batch.proofs.Sorting.{Growing, all-in, only-sorted}
 use Rattle.batch.proofs.Keeping.{size-some, messages-ahead, messages-from, messages-grow, messages-good, messages-append, messages-same, Sub, keep-one, sub-none, sub-first, sub-behind, sub-past, all-sub, growing-sub, in-all, in-append, wanted-is, wanted-all, wanted-not, wanted-past, messages-split, only-in, only-out, only-append, only-clear, upto-all, upto-self, only-length, only-same, above-only, fall-top, lower-again, part-first, part-shorter}
 
 -- ---- is_above, is_up_to, is_wanted
@@ -79,14 +82,6 @@ pub ruleset fronted = (bound-good, front-none, front-some)
 pub ruleset tests = (front-at-hand, above-all, above-some, upto-none, upto-some)
 
 pub ruleset wanting = (both-tests, first-fails)
-
--- ---- part
-
-pub part-fronts : (s : Bytes) (low n top least most : ℕ) → least ≡ frontOr s low 0 → most ≡ frontOr s top 18_446_744_073_709_551_615 →
-    Fronts s low (record { n = n; top = top; least = least; most = most })
-part-fronts s low n top least most e f = record { least = e; most = f }
-
-pub ruleset parting = (part-fronts)
 
 -- ---- is_among
 

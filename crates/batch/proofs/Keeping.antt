@@ -10,12 +10,14 @@ use lib.ListN.{length, getD, take, drop, length-append}
 use borrow.Author.Tests.{eqb-true, eqb-false, eq-eqb, ne-eqb, not-true}
 use Rattle.payload.specs.Content.{Bytes}
 use Rattle.heard.specs.Place.{Messages, done, more, Payload, Sized, v4, v6, key, sizeAt, precedes}
-use Rattle.batch.specs.Next.{sorted, isAbove, above, left}
+use Rattle.sorting.specs.Sorted.{sorted}
+use Rattle.batch.specs.Next.{isAbove, above, left}
 use Rattle.batch.specs.Keep.{only, isUpTo, isWanted, In, here, there, Bound, none, one, TopIs, all}
 use Rattle.batch.specs.Keep as keep
 use Rattle.batch.specs.Map.{Stretch}
-use Rattle.batch.proofs.Precede.{true≢false, not-above-trans, never-self}
-use Rattle.batch.proofs.Sorting.{All, nil, cons, all-at, all-only, all-sorted, all-weak, all-in, only-sorted, climbing-sorted, sorted-fixed, Rising, rising-only, rising-sorted, upto-take, upto-first, only-shorter, Growing, flat, up, length-sorted}
+use Rattle.sorting.proofs.Precede.{true≢false, not-above-trans, never-self}
+use Rattle.sorting.proofs.Sorting.{All, nil, cons, all-at, all-sorted, all-weak, climbing-sorted, sorted-fixed, length-sorted}
+use Rattle.batch.proofs.Sorting.{all-only, all-in, only-sorted, Rising, rising-only, rising-sorted, upto-take, upto-first, only-shorter, Growing, flat, up}
 
 -- ---- messages by their offsets
 

@@ -13,12 +13,14 @@ use lib.Seq.{take-suc-set, getD-set-same, getD-set-other, getD-take, getD-drop, 
 use Rattle.payload.specs.Content.{Bytes}
 use Rattle.heard.specs.Place.{Messages, done, more, Payload, sizeAt, precedes}
 use Rattle.batch.specs.declared.survey.Filled.{Filled}
-use Rattle.batch.specs.Next.{sorted}
-use Rattle.batch.specs.Keep.{In, Held, FirstSorted}
+use Rattle.sorting.specs.Sorted.{sorted}
+use Rattle.sorting.specs.Sort.{Held, FirstSorted}
+use Rattle.batch.specs.Keep.{In}
 use Rattle.batch.specs.Map.{Hint, HintAt, Hinted, Chunk, Marked, Stretch, FilledIs, Among, Drew, Draws, Drawn, CutAt, Noted, Starts, Charted, Surveys, Surveyed, Lines, Mapped}
 use Rattle.batch.specs.Map as map
-use Rattle.batch.proofs.Sorting.{All, cons, climbing-at, in-sorted, all-at, all-in, all-by, all-weak, all-sorted, Climbing, flat, up, climbing-sorted, length-sorted}
-use Rattle.batch.proofs.Precede.{never-self}
+use Rattle.sorting.proofs.Sorting.{All, cons, climbing-at, all-at, all-by, all-weak, all-sorted, Climbing, flat, up, climbing-sorted, length-sorted}
+use Rattle.batch.proofs.Sorting.{in-sorted, all-in}
+use Rattle.sorting.proofs.Precede.{never-self}
 use Rattle.batch.proofs.Keeping.{size-some, messages-ahead, messages-good, messages-append, Halves, messages-halves, messages-same, in-all, in-append, in-behind}
 
 -- ---- fill

@@ -8,8 +8,10 @@ use lib.ListN.{length, getD, take, drop, set}
 use Rattle.payload.specs.Content.{Bytes}
 use Rattle.item.specs.Front.{frontKey}
 use Rattle.heard.specs.Place.{Messages, Payload, keyAt, precedes}
+use Rattle.sorting.specs.Sorted.{sorted}
+use Rattle.sorting.specs.Sort.{SortedIs}
 use Rattle.batch.specs.declared.collect.Part.{Part}
-use Rattle.batch.specs.Next.{sorted, isAbove}
+use Rattle.batch.specs.Next.{isAbove}
 
 -- those that pass a test
 abbrev pub only : (ℕ → Bool) → List ℕ → List ℕ
@@ -36,50 +38,6 @@ pub data In (x : ℕ) : List ℕ → Type 0 where
 pub data Bound (s : Bytes) (x : ℕ) : Type 0 where
   none : x ≡ 0 → Bound s x
   one : Payload s x → Bound s x
-
--- each offset held is that of a payload message
-pub record Held (s : Bytes) (l : List ℕ) : Type 0 where
-  pub each : (k : ℕ) → k < length l → Payload s (getD l k 0)
-
--- the first i are in message order
-pub record Climbs (s : Bytes) (l : List ℕ) (i : ℕ) : Type 0 where
-  pub up : (a b : ℕ) → a < b → b < i → precedes s (getD l b 0) (getD l a 0) ≡ false
-
--- ---- sorting
-
--- one at i goes down among those before it
-pub record Settles (s : Bytes) (l : List ℕ) (i gap : ℕ) : Type 0 where
-  pub held : Held s l
-  pub within : i < length l
-  pub some : 1 ≤ gap
-
-pub record Settled (s : Bytes) (l₀ l : List ℕ) (i gap : ℕ) : Type 0 where
-  pub held : Held s l
-  pub long : length l ≡ length l₀
-  pub same : sorted s l ≡ sorted s l₀
-  pub order : gap ≡ 1 → Climbs s l₀ i → Climbs s l (i + 1)
-
-pub record Combs (s : Bytes) (l : List ℕ) (gap : ℕ) : Type 0 where
-  pub held : Held s l
-  pub some : 1 ≤ gap
-
-pub record Combed (s : Bytes) (l₀ l : List ℕ) (gap : ℕ) : Type 0 where
-  pub held : Held s l
-  pub long : length l ≡ length l₀
-  pub same : sorted s l ≡ sorted s l₀
-  pub order : gap ≡ 1 → Climbs s l (length l)
-
-pub record Ascends (s : Bytes) (l : List ℕ) (r : Bool) : Type 0 where
-  pub climbs : r ≡ true → Climbs s l (length l)
-
-pub record SortedIs (s : Bytes) (l₀ l : List ℕ) : Type 0 where
-  pub held : Held s l
-  pub is : l ≡ sorted s l₀
-
-pub record FirstSorted (s : Bytes) (l₀ : List ℕ) (n : ℕ) (l : List ℕ) : Type 0 where
-  pub long : length l ≡ length l₀
-  pub is : take n l ≡ sorted s (take n l₀)
-  pub rest : drop n l ≡ drop n l₀
 
 -- ---- collecting
 

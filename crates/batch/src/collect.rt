@@ -1,8 +1,8 @@
 // Walking the messages, with the least of those that are left in the buffer.
-use crate::sort::sort;
 use heard::compare::is_before_by;
 use heard::front::front_at;
 use heard::place::size_at;
+use sorting::sort::sort;
 use std::num::wrapping_sub_usize;
 ghost use mathlib.Core.Path.{_≡_};
 ghost use Prim.Native.Nat.{_≤_, _<_, _*_, _+_};

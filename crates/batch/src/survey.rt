@@ -1,6 +1,6 @@
 // The survey of the messages: chunks and hints.
-use crate::sort::sort_first;
 use heard::place::size_at;
+use sorting::sort::sort_first;
 ghost use mathlib.Core.Path.{_≡_};
 ghost use Prim.Native.Nat.{_≤_, _<_};
 ghost use lib.ListN.{length};

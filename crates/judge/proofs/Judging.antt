@@ -41,7 +41,7 @@ use Rattle.message.specs.Hear as message
 use Rattle.message.specs.Take.{Taken, all, misfit, asItem}
 use Rattle.message.specs.Take as fold
 use Rattle.heard.specs.Place.{keyAt, announcesAt, toldAt, Payload, Messages, done, more}
-use Rattle.batch.specs.Next.{sorted}
+use Rattle.sorting.specs.Sorted.{sorted}
 use Rattle.batch.specs.Map.{Surveys, Mapped}
 use Rattle.batch.specs.Map as map
 use Rattle.heard.specs.declared.hear.Stop.{Stop}

@@ -1,21 +1,24 @@
 use borrow.Author.Needs.{needs}
-use Rattle.batch.proofs.Settling.{Settling, settling}
+use Rattle.sorting.proofs.Settling.{Settling, settling}
 use Prim.Native.Nat.{_-_, _+_}
 use lib.ListN.{length}
-use Rattle.batch.proofs.sort.settle.Statement.{statement}
-use Rattle.batch.proofs.sort.settle.Tie as tie
+use Rattle.sorting.proofs.settle.settle.Statement.{statement}
+use Rattle.sorting.proofs.settle.settle.Tie as tie
 
 abbrev Inv-loop : tie.InvT-loop
-Inv-loop s buf₀ i gap x j₀ buf j = Settling s buf₀ i gap x buf j
+Inv-loop s buf₀ i x p j₀ buf j = Settling s buf₀ i x p buf j
 
 abbrev μ-loop : tie.MeasureT-loop
-μ-loop s buf₀ i gap x j₀ buf j = j
+μ-loop s buf₀ i x p j₀ buf j = j
 
 mul-x : tie.Need-mul-x Inv-loop μ-loop
 mul-x c = search (settling, needs)
 
 slice-read-x : tie.Need-slice-read-x Inv-loop μ-loop
 slice-read-x c = search (settling, needs)
+
+front-at-requires : tie.Need-front-at-requires Inv-loop μ-loop
+front-at-requires c κs = search (settling, needs)
 
 loop-holds : tie.Need-loop-holds Inv-loop μ-loop
 loop-holds c = search (settling, needs)
@@ -26,8 +29,11 @@ mul-y c = search (settling, needs)
 slice-read-y : tie.Need-slice-read-y Inv-loop μ-loop
 slice-read-y c = search (settling, needs)
 
-is-before-requires : tie.Need-is-before-requires Inv-loop μ-loop
-is-before-requires c κs = search (settling, needs)
+front-at-requires-2 : tie.Need-front-at-requires-2 Inv-loop μ-loop
+front-at-requires-2 c κs = search (settling, needs)
+
+is-before-by-requires : tie.Need-is-before-by-requires Inv-loop μ-loop
+is-before-by-requires c κs = search (settling, needs)
 
 mul-buf : tie.Need-mul-buf Inv-loop μ-loop
 mul-buf c = search (settling, needs)
@@ -73,10 +79,12 @@ settle-spec =
     μ-loop
     mul-x
     slice-read-x
+    front-at-requires
     loop-holds
     mul-y
     slice-read-y
-    is-before-requires
+    front-at-requires-2
+    is-before-by-requires
     mul-buf
     slice-write-buf
     loop-less

@@ -1,7 +1,7 @@
 use borrow.Author.Needs.{needs}
-use Rattle.batch.proofs.Settling.{firsts}
-use Rattle.batch.proofs.sort.sort_first.Statement.{statement}
-use Rattle.batch.proofs.sort.sort_first.Tie as tie
+use Rattle.sorting.proofs.Joining.{firsts}
+use Rattle.sorting.proofs.sort.sort_first.Statement.{statement}
+use Rattle.sorting.proofs.sort.sort_first.Tie as tie
 
 slice-relend-prefix-sort : tie.Need-slice-relend-prefix-sort
 slice-relend-prefix-sort c = search (firsts, needs)

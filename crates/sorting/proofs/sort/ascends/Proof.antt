@@ -1,9 +1,9 @@
 use borrow.Author.Needs.{needs}
-use Rattle.batch.proofs.Settling.{Ascending, ascending}
+use Rattle.sorting.proofs.Joining.{Ascending, ascending}
 use Prim.Native.Nat.{_-_, _+_}
 use lib.ListN.{length}
-use Rattle.batch.proofs.sort.ascends.Statement.{statement}
-use Rattle.batch.proofs.sort.ascends.Tie as tie
+use Rattle.sorting.proofs.sort.ascends.Statement.{statement}
+use Rattle.sorting.proofs.sort.ascends.Tie as tie
 
 abbrev Inv-loop : tie.InvT-loop
 Inv-loop s buf i₀ i = Ascending s buf i
