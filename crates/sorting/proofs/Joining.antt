@@ -10,7 +10,7 @@ use lib.Seq.{length-take-le, take-all, take-at, take-take, take-add, drop-at, dr
 use Rattle.payload.specs.Content.{Bytes}
 use Rattle.heard.specs.Place.{Payload, precedes}
 use Rattle.sorting.specs.Sorted.{sorted}
-use Rattle.sorting.specs.Sort.{Held, Climbs, Ascends, Block, Extends, Merges, RunsAre, Doubles, SortedIs, FirstSorted}
+use Rattle.sorting.specs.Sort.{Held, Climbs, Ascends, Block, EndIs, Extends, Merges, RunsAre, Doubles, SortedIs, FirstSorted}
 use Rattle.sorting.proofs.Precede.{true≢false, not-above-trans}
 use Rattle.sorting.proofs.Sorting.{climbing-by, sorted-fixed, sorted-first, sorted-behind, length-sorted}
 use Rattle.sorting.proofs.Merging.{sorted-is, held-take, held-drop, held-both}
@@ -36,8 +36,8 @@ module _ (s : Bytes) (l : List ℕ) (i : ℕ) (t : Ascending s l i) where
   pub ascend-last : i < length l → Payload s (getD l (i - 1) 0)
   ascend-last h = t .held .each (i - 1) (omega arith)
 
-  pub ascend-no : i < length l → Ascends s l false
-  ascend-no h = record { same = λ e. true≢false e refl; some = λ e. omega arith }
+  pub ascend-no : Ascends s l false
+  ascend-no = record { same = λ e. true≢false e refl }
 
   pub ascend-again : (r : Bool) → r ≡ precedes s (getD l i 0) (getD l (i - 1) 0) → r ≡ false → Ascending s l (i + 1)
   ascend-again r e f = record { held = t .held; some = omega arith; order = record { up = λ a b p q. go a b p q (ℕ-discrete b i) (ℕ-discrete a (i - 1)) } }
@@ -49,7 +49,7 @@ module _ (s : Bytes) (l : List ℕ) (i : ℕ) (t : Ascending s l i) where
       go a b p q (no x) y = t .order .up a b p (omega arith)
 
   pub ascend-end : length l ≤ i → Ascends s l true
-  ascend-end h = record { same = λ e. sorted-fixed s (climbing-by s l (λ a b p q. t .order .up a b p (omega arith))); some = λ e. true≢false refl e }
+  ascend-end h = record { same = λ e. sorted-fixed s (climbing-by s l (λ a b p q. t .order .up a b p (omega arith))) }
 
 pub ruleset ascending = (ascend-start, ascend-some, ascend-here, ascend-last, ascend-no, ascend-again, ascend-end)
 
@@ -147,80 +147,77 @@ pub ruleset widening = (block-held, block-start, block-long, block-end, block-so
 pub record Extending (s : Bytes) (l₀ l sp : List ℕ) (m : ℕ) : Type 0 where
   pub held : Held s l
   pub spare : length sp ≡ 448
-  pub within : m < length l
   pub first : FirstSorted s l₀ m l
 
 pub sort-none : (s : Bytes) (l : List ℕ) (r : Bool) → Held s l → Ascends s l r → r ≡ true → SortedIs s l l
 sort-none s l r h a e = sorted-is s l l h (sym (a .same e))
 
-pub sort-start : (s : Bytes) (l sp : List ℕ) (r : Bool) → Held s l → Ascends s l r → r ≡ false → length sp ≡ 448 → Extending s l l sp 0
+pub sort-start : (s : Bytes) (l sp : List ℕ) → Held s l → length sp ≡ 448 → Extending s l l sp 0
 unfolding sorted
-sort-start s l sp r h a e f = record { held = h; spare = f; within = omega (arith, a .some e); first = record { long = refl; is = refl; rest = refl } }
-
-module _ (s : Bytes) (l₀ l : List ℕ) (m : ℕ) (f : FirstSorted s l₀ m l) where
-  -- the first m and the n behind them
-  first-more : (n : ℕ) → sorted s (take (m + n) l) ≡ sorted s (take (m + n) l₀)
-  first-more n =
-      ap (sorted s) (take-add m n l) ∙ ap (λ (r : List ℕ). sorted s (r ++ take n (drop m l))) (f .is) ∙ ap (λ (r : List ℕ). sorted s (sorted s (take m l₀) ++ take n r)) (f .rest)
-      ∙ sorted-first s (take m l₀) (take n (drop m l₀)) ∙ ap (sorted s) (sym (take-add m n l₀))
-
-  first-all : sorted s l ≡ sorted s l₀
-  first-all =
-      let z : l ≡ take (m + length l) l = sym (take-all (m + length l) l (omega arith)) in
-      let y : take (m + length l) l₀ ≡ l₀ = take-all (m + length l) l₀ (omega (arith, f .long)) in
-      ap (sorted s) z ∙ first-more (length l) ∙ ap (sorted s) y
+sort-start s l sp h f = record { held = h; spare = f; first = record { long = refl; is = refl; rest = refl } }
 
 module _ (s : Bytes) (l₀ l sp : List ℕ) (m : ℕ) (t : Extending s l₀ l sp m) where
-  pub sort-within : m ≤ length l
-  sort-within = omega (arith, t .within)
-
   in-order : sorted s (take m l) ≡ take m l
   in-order = ap (sorted s) (t .first .is) ∙ sorted-twice s (take m l₀) ∙ sym (t .first .is)
 
   pub sort-long : length l ≡ length l₀
   sort-long = t .first .long
 
-  pub sort-last : length l - m ≤ 448 → Extends s l m sp
-  sort-last h = record { held = t .held; within = t .within; small = h; room = t .spare; left = in-order }
+  pub sort-end : length l ≤ m → SortedIs s l₀ l
+  sort-end h = record { held = t .held; is = sym (take-all m l h) ∙ t .first .is ∙ ap (sorted s) (take-all m l₀ (omega (arith, t .first .long))) }
 
-  pub sort-end : (l' : List ℕ) → SortedIs s l l' → SortedIs s l₀ l'
-  sort-end l' d = record { held = d .held; is = d .is ∙ first-all s l₀ l m (t .first) }
+  -- up to e
+  module _ (e : ℕ) (h : EndIs m (length l) e) where
+    pub sort-part : e ≤ length l
+    sort-part = h .within
 
-  module _ (h : 448 < length l - m) where
-    pub sort-part : m + 448 ≤ length l
-    sort-part = omega arith
+    pub sort-moves : m < e
+    sort-moves = h .some
 
-    part : length (take (m + 448) l) ≡ m + 448
-    part = length-take-le (m + 448) l sort-part
+    part : length (take e l) ≡ e
+    part = length-take-le e l sort-part
 
-    pub sort-extends : Extends s (take (m + 448) l) m sp
+    pub sort-extends : Extends s (take e l) m sp
     sort-extends = record {
-      held = held-take s l (m + 448) (t .held) sort-part;
-      within = omega (arith, part);
-      small = omega (arith, part);
+      held = held-take s l e (t .held) sort-part;
+      within = omega (arith, part, h .some);
+      small = omega (arith, part, h .small);
       room = t .spare;
-      left = rw (take-take m (m + 448) l (omega arith)) in-order;
+      left = rw (take-take m e l (omega (arith, h .some))) in-order;
     }
 
-    pub sort-again : (k sp' : List ℕ) → SortedIs s (take (m + 448) l) k → length sp' ≡ length sp → Extending s l₀ (k ++ drop (m + 448) l) sp' (m + 448)
-    sort-again k sp' d e = record {
-      held = held-both s k (drop (m + 448) l) (d .held) (held-drop s l (m + 448) (t .held));
-      spare = e ∙ t .spare;
-      within = omega (arith, long);
+    to-e : m + (e - m) ≡ e
+    to-e = omega (arith, h .some)
+
+    cut : (k : List ℕ) → take e k ≡ take m k ++ take (e - m) (drop m k)
+    cut k = ap (λ (n : ℕ). take n k) (sym to-e) ∙ take-add m (e - m) k
+
+    beyond : (k : List ℕ) → drop e k ≡ drop (e - m) (drop m k)
+    beyond k = ap (λ (n : ℕ). drop n k) (sym to-e) ∙ sym (drop-drop (e - m) m k)
+
+    same : sorted s (take e l) ≡ sorted s (take e l₀)
+    same =
+        ap (sorted s) (cut l) ∙ ap (λ (r : List ℕ). sorted s (r ++ take (e - m) (drop m l))) (t .first .is) ∙ ap (λ (r : List ℕ). sorted s (sorted s (take m l₀) ++ take (e - m) r)) (t .first .rest)
+        ∙ sorted-first s (take m l₀) (take (e - m) (drop m l₀)) ∙ ap (sorted s) (sym (cut l₀))
+
+    pub sort-again : (k sp' : List ℕ) → SortedIs s (take e l) k → length sp' ≡ length sp → Extending s l₀ (k ++ drop e l) sp' e
+    sort-again k sp' d f = record {
+      held = held-both s k (drop e l) (d .held) (held-drop s l e (t .held));
+      spare = f ∙ t .spare;
       first = record {
         long = long ∙ t .first .long;
-        is = take-at k (drop (m + 448) l) (m + 448) size ∙ d .is ∙ first-more s l₀ l m (t .first) 448;
-        rest = drop-at k (drop (m + 448) l) (m + 448) size ∙ sym (drop-drop 448 m l) ∙ ap (drop 448) (t .first .rest) ∙ drop-drop 448 m l₀;
+        is = take-at k (drop e l) e size ∙ d .is ∙ same;
+        rest = drop-at k (drop e l) e size ∙ beyond l ∙ ap (drop (e - m)) (t .first .rest) ∙ sym (beyond l₀);
       };
     }
       where
-        size : length k ≡ m + 448
-        size = ap length (d .is) ∙ length-sorted s (take (m + 448) l) ∙ part
+        size : length k ≡ e
+        size = ap length (d .is) ∙ length-sorted s (take e l) ∙ part
 
-        long : length (k ++ drop (m + 448) l) ≡ length l
-        long = let z : length (drop (m + 448) l) ≡ length l - (m + 448) = length-drop (m + 448) l in length-append k (drop (m + 448) l) ∙ omega (arith, size)
+        long : length (k ++ drop e l) ≡ length l
+        long = let z : length (drop e l) ≡ length l - e = length-drop e l in length-append k (drop e l) ∙ omega (arith, size, sort-part)
 
-pub ruleset joining = (length-take-le, sort-none, sort-start, sort-within, sort-long, sort-last, sort-end, sort-part, sort-extends, sort-again)
+pub ruleset joining = (length-take-le, sort-none, sort-start, sort-long, sort-end, sort-part, sort-moves, sort-extends, sort-again)
 
 -- ---- sort_first
 

@@ -23,7 +23,6 @@ pub record FirstSorted (s : Bytes) (l₀ : List ℕ) (n : ℕ) (l : List ℕ) : 
 
 pub record Ascends (s : Bytes) (l : List ℕ) (r : Bool) : Type 0 where
   pub same : r ≡ true → sorted s l ≡ l
-  pub some : r ≡ false → 1 ≤ length l
 
 -- ---- one goes down
 
@@ -89,6 +88,11 @@ pub record Doubles (s : Bytes) (l : List ℕ) (w : ℕ) (spare : List ℕ) : Typ
   pub room : length spare ≡ 448
 
 -- ---- blocks of 448
+
+pub record EndIs (m n r : ℕ) : Type 0 where
+  pub some : m < r
+  pub within : r ≤ n
+  pub small : r - m ≤ 448
 
 pub record Block (s : Bytes) (l spare : List ℕ) : Type 0 where
   pub held : Held s l

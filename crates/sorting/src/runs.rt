@@ -1,7 +1,6 @@
 // Runs of a width: each stretch of so many offsets is in message order.
 use crate::merge::merge;
 use crate::settle::settle_all;
-ghost use mathlib.Core.Path.{_≡_};
 ghost use Prim.Native.Nat.{_+_};
 ghost use Rattle.sorting.specs.Sort.{Held, Doubles, RunsAre};
 

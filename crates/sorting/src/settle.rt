@@ -1,7 +1,6 @@
 // Sorting a few offsets: each goes down to its place.
 use heard::compare::is_before_by;
 use heard::front::front_at;
-ghost use mathlib.Core.Path.{_≡_};
 ghost use Rattle.sorting.specs.Sort.{Held, Settles, Settled, SortedIs};
 
 // The offset at i goes down as far as it is before the one there.

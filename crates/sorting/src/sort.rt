@@ -3,10 +3,9 @@ use crate::merge::merge;
 use crate::runs::merge_runs;
 use crate::runs::settle_runs;
 use heard::compare::is_before;
-ghost use mathlib.Core.Path.{_≡_};
 ghost use Prim.Native.Nat.{_≤_, _<_};
 ghost use lib.ListN.{length, take};
-ghost use Rattle.sorting.specs.Sort.{Held, Ascends, Block, Extends, SortedIs, FirstSorted};
+ghost use Rattle.sorting.specs.Sort.{Held, Ascends, Block, EndIs, Extends, SortedIs, FirstSorted};
 
 // Whether they are in order already.
 fn ascends(s: &[u8], buf: &[usize]) -> bool
@@ -45,6 +44,17 @@ fn extend(s: &[u8], buf: &mut [usize], m: usize, spare: &mut [usize])
     merge(s, buf, m, spare);
 }
 
+// Where a block ends that starts at m, of n in all.
+fn block_end(m: usize, n: usize) -> usize
+    requires { ⌜ m < n ⌝ }
+    ensures { λ r. ⌜ EndIs m n r ⌝ }
+{
+    if n - m <= 448 {
+        return n;
+    }
+    m + 448
+}
+
 // Offsets in message order.
 pub fn sort(s: &[u8], buf: &mut [usize])
     requires { ⌜ Held (now s) (now buf) ⌝ }
@@ -55,12 +65,11 @@ pub fn sort(s: &[u8], buf: &mut [usize])
     }
     let mut spare = [0usize; 448];
     let mut m = 0;
-    while 448 < buf.len() - m {
-        let e = m + 448;
+    while m < buf.len() {
+        let e = block_end(m, buf.len());
         extend(s, &mut buf[..e], m, &mut spare[..]);
         m = e;
     }
-    extend(s, buf, m, &mut spare[..]);
 }
 
 // The first n in message order.

@@ -23,11 +23,8 @@ returns c = search (joining, needs)
 loop-holds : tie.Need-loop-holds Inv-loop μ-loop
 loop-holds c = search (joining, needs)
 
-sub-loop : tie.Need-sub-loop Inv-loop μ-loop
-sub-loop c = search (joining, needs)
-
-add-e : tie.Need-add-e Inv-loop μ-loop
-add-e c = search (joining, needs)
+block-end-requires : tie.Need-block-end-requires Inv-loop μ-loop
+block-end-requires c κs = search (joining, needs)
 
 slice-relend-prefix-extend : tie.Need-slice-relend-prefix-extend Inv-loop μ-loop
 slice-relend-prefix-extend c = search (joining, needs)
@@ -47,12 +44,6 @@ loop-less c = search (joining, needs)
 loop-again : tie.Need-loop-again Inv-loop μ-loop
 loop-again c = search (joining, needs)
 
-slice-aggregate-extend-3 : tie.Need-slice-aggregate-extend-3 Inv-loop μ-loop
-slice-aggregate-extend-3 c = search (joining, needs)
-
-extend-requires-2 : tie.Need-extend-requires-2 Inv-loop μ-loop
-extend-requires-2 c κs = search (joining, needs)
-
 same-length-2 : tie.Need-same-length-2 Inv-loop μ-loop
 same-length-2 c = search (joining, needs)
 
@@ -69,15 +60,12 @@ sort-spec =
     same-length
     returns
     loop-holds
-    sub-loop
-    add-e
+    block-end-requires
     slice-relend-prefix-extend
     slice-aggregate-extend
     slice-aggregate-extend-2
     extend-requires
     loop-less
     loop-again
-    slice-aggregate-extend-3
-    extend-requires-2
     same-length-2
     returns-2)
