@@ -6,7 +6,8 @@ use mathlib.Core.Bool.{true, false}
 use lib.ListN.{replicate}
 use Rattle.payload.specs.Content.{Bytes}
 use Rattle.heard.specs.Place.{keyAt, precedes}
-use Rattle.batch.specs.Next.{insert, sorted, isAbove, above, left}
+use Rattle.sorting.specs.Sorted.{insert, sorted}
+use Rattle.batch.specs.Next.{isAbove, above, left}
 use Rattle.batch.specs.Keep.{only, isUpTo, isWanted}
 
 abbrev one : ℕ → ℕ → Bytes
@@ -16,10 +17,6 @@ abbrev s : Bytes
 s = replicate 8 0 ++ (one 192 2 ++ (one 10 0 ++ one 10 0))
 
 -- by the record, and of one record by the offset
-in-order : sorted s (8 ∷ 28 ∷ 48 ∷ []) ≡ 28 ∷ 48 ∷ 8 ∷ []
-unfolding sorted insert precedes keyAt
-in-order = refl
-
 all-left : left s 0 (8 ∷ 28 ∷ 48 ∷ []) ≡ 28 ∷ 48 ∷ 8 ∷ []
 unfolding sorted insert precedes keyAt isAbove above
 all-left = refl

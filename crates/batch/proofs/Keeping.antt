@@ -10,11 +10,14 @@ use lib.ListN.{length, getD, take, drop, length-append}
 use borrow.Author.Tests.{eqb-true, eqb-false, eq-eqb, ne-eqb, not-true}
 use Rattle.payload.specs.Content.{Bytes}
 use Rattle.heard.specs.Place.{Messages, done, more, Payload, Sized, v4, v6, key, sizeAt, precedes}
-use Rattle.batch.specs.Next.{sorted, isAbove, above, left}
+use Rattle.sorting.specs.Sorted.{sorted}
+use Rattle.batch.specs.Next.{isAbove, above, left}
 use Rattle.batch.specs.Keep.{only, isUpTo, isWanted, In, here, there, Bound, none, one, TopIs, all}
 use Rattle.batch.specs.Keep as keep
-use Rattle.batch.proofs.Precede.{true≢false, not-above-trans, never-self}
-use Rattle.batch.proofs.Sorting.{All, nil, cons, all-at, all-only, all-sorted, all-weak, all-in, only-sorted, climbing-sorted, sorted-fixed, Rising, rising-only, rising-sorted, upto-take, upto-first, only-shorter, Growing, flat, up, length-sorted}
+use Rattle.batch.specs.Map.{Stretch}
+use Rattle.sorting.proofs.Precede.{true≢false, not-above-trans, never-self}
+use Rattle.sorting.proofs.Sorting.{All, nil, cons, all-at, all-sorted, all-weak, climbing-sorted, sorted-fixed, length-sorted}
+use Rattle.batch.proofs.Sorting.{all-only, all-in, only-sorted, Rising, rising-only, rising-sorted, upto-take, upto-first, only-shorter, Growing, flat, up}
 
 -- ---- messages by their offsets
 
@@ -63,6 +66,50 @@ pub messages-split : {s : Bytes} {at over stop : ℕ} {cs xs : List ℕ} → Mes
 messages-split {xs = xs} done n h = record { rest = xs; ahead = n }
 messages-split {s = s} (more {at} p m) done h = absurd (omega (arith, messages-ahead m, size-some s at p))
 messages-split (more p m) (more q n) h = messages-split m n h
+
+-- cut at one of them
+pub record Halves (s : Bytes) (from mid over : ℕ) : Type 0 where
+  pub first : Stretch s from mid
+  pub second : Stretch s mid over
+
+pub messages-halves : {s : Bytes} {from over : ℕ} {cs : List ℕ} → Messages s from cs over → (i : ℕ) → i < length cs → Halves s from (getD cs i 0) over
+messages-halves done i h = absurd (omega arith)
+messages-halves (more {at} {stop} {xs} p m) zero h = record { first = record { xs = []; messages = done }; second = record { xs = at ∷ xs; messages = more p m } }
+messages-halves (more {at} {stop} {xs} p m) (suc i) h =
+    let r = messages-halves m i (omega arith) in
+    record { first = record { xs = at ∷ r .first .xs; messages = more p (r .first .messages) }; second = r .second }
+
+-- some of a list, in its order
+pub data Sub : List ℕ → List ℕ → Type 0 where
+  end : Sub [] []
+  keep-one : {x : ℕ} {u v : List ℕ} → Sub u v → Sub (x ∷ u) (x ∷ v)
+  skip-one : {x : ℕ} {u v : List ℕ} → Sub u v → Sub u (x ∷ v)
+
+pub sub-none : (v : List ℕ) → Sub [] v
+sub-none [] = end
+sub-none (x ∷ v) = skip-one (sub-none v)
+
+pub sub-first : (u v : List ℕ) → Sub u (u ++ v)
+sub-first [] v = sub-none v
+sub-first (x ∷ u) v = keep-one (sub-first u v)
+
+pub sub-behind : (u : List ℕ) {v w : List ℕ} → Sub v w → Sub (u ++ v) (u ++ w)
+sub-behind [] h = h
+sub-behind (x ∷ u) h = keep-one (sub-behind u h)
+
+pub sub-past : (m : List ℕ) {v w : List ℕ} → Sub v w → Sub v (m ++ w)
+sub-past [] h = h
+sub-past (x ∷ m) h = skip-one (sub-past m h)
+
+pub all-sub : {P : ℕ → Type 0} {u v : List ℕ} → Sub u v → All P v → All P u
+all-sub end a = nil
+all-sub (keep-one h) (cons p a) = cons p (all-sub h a)
+all-sub (skip-one h) (cons p a) = all-sub h a
+
+pub growing-sub : {u v : List ℕ} → Sub u v → Growing v → Growing u
+growing-sub end g = flat
+growing-sub (keep-one h) (up a g) = up (all-sub h a) (growing-sub h g)
+growing-sub (skip-one h) (up a g) = growing-sub h g
 
 pub in-all : {P : ℕ → Type 0} {x : ℕ} {l : List ℕ} → In x l → All P l → P x
 in-all here (cons p a) = p
@@ -152,18 +199,20 @@ module _ (s : Bytes) where
 
 -- ---- parts of a list by tests
 
-pub only-more : (p : ℕ → Bool) (l : List ℕ) (x : ℕ) → p x ≡ true → only p (l ++ (x ∷ [])) ≡ only p l ++ (x ∷ [])
-only-more p [] x e = rw e
-only-more p (y ∷ l) x e = go (p y) (only-more p l x e)
+pub only-append : (p : ℕ → Bool) (u v : List ℕ) → only p (u ++ v) ≡ only p u ++ only p v
+only-append p [] v = refl
+only-append p (y ∷ u) v = go (p y) (only-append p u v)
   where
-    go : (c : Bool) → only p (l ++ (x ∷ [])) ≡ only p l ++ (x ∷ []) →
-        cond c (y ∷ only p (l ++ (x ∷ []))) (only p (l ++ (x ∷ []))) ≡ cond c (y ∷ only p l) (only p l) ++ (x ∷ [])
+    go : (c : Bool) → only p (u ++ v) ≡ only p u ++ only p v → cond c (y ∷ only p (u ++ v)) (only p (u ++ v)) ≡ cond c (y ∷ only p u) (only p u) ++ only p v
     go true ih = ap (λ (r : List ℕ). y ∷ r) ih
     go false ih = ih
 
-pub only-past : (p : ℕ → Bool) (l : List ℕ) (x : ℕ) → p x ≡ false → only p (l ++ (x ∷ [])) ≡ only p l
-only-past p [] x e = rw e
-only-past p (y ∷ l) x e = ap (λ (r : List ℕ). cond (p y) (y ∷ r) r) (only-past p l x e)
+-- one more in the middle
+pub only-in : (p : ℕ → Bool) (u v : List ℕ) (x : ℕ) → p x ≡ true → only p (u ++ (x ∷ v)) ≡ only p u ++ (x ∷ only p v)
+only-in p u v x e = only-append p u (x ∷ v) ∙ rw e
+
+pub only-out : (p : ℕ → Bool) (u v : List ℕ) (x : ℕ) → p x ≡ false → only p (u ++ (x ∷ v)) ≡ only p (u ++ v)
+only-out p u v x e = only-append p u (x ∷ v) ∙ rw e (sym (only-append p u v))
 
 pub only-clear : (p : ℕ → Bool) (l cs : List ℕ) → ((x : ℕ) → In x cs → p x ≡ false) → only p (l ++ cs) ≡ only p l
 only-clear p [] [] f = refl

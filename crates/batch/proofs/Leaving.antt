@@ -11,10 +11,12 @@ use borrow.Author.Tests.{ne-eqb}
 use Rattle.payload.specs.Content.{Bytes}
 use Rattle.heard.specs.Place.{Messages, Payload, precedes}
 use Rattle.batch.specs.declared.next.Batch.{Batch}
-use Rattle.batch.specs.Next.{sorted, isAbove, above, left, NextIs}
+use Rattle.sorting.specs.Sorted.{sorted}
+use Rattle.batch.specs.Next.{isAbove, above, left, NextIs}
 use Rattle.batch.specs.Keep.{only, Told, one}
-use Rattle.batch.proofs.Precede.{true≢false, never-self, precede-trans, precede-turn}
-use Rattle.batch.proofs.Sorting.{All, nil, cons, all-at, all-by, all-only, all-sorted, all-weak, Rising, flat, up, rising-only, rising-sorted}
+use Rattle.sorting.proofs.Precede.{true≢false, never-self, precede-trans, precede-turn}
+use Rattle.sorting.proofs.Sorting.{All, nil, cons, all-at, all-by, all-sorted, all-weak}
+use Rattle.batch.proofs.Sorting.{all-only, Rising, flat, up, rising-only, rising-sorted}
 use Rattle.batch.proofs.Keeping.{messages-from, messages-grow, messages-good, only-both, only-passed, only-same, above-only}
 
 only-all : (p : ℕ → Bool) {l : List ℕ} → All (λ (y : ℕ). p y ≡ true) l → only p l ≡ l

@@ -1,6 +1,4 @@
-pub mod Precede
 pub mod Sorting
-pub mod Settling
 pub mod Keeping
 pub mod Collecting
 pub mod Bounding

@@ -13,13 +13,15 @@ use lib.Seq.{take-suc-set, getD-set-same, getD-set-other, getD-take, getD-drop, 
 use Rattle.payload.specs.Content.{Bytes}
 use Rattle.heard.specs.Place.{Messages, done, more, Payload, sizeAt, precedes}
 use Rattle.batch.specs.declared.survey.Filled.{Filled}
-use Rattle.batch.specs.Next.{sorted}
-use Rattle.batch.specs.Keep.{In, Held, FirstSorted}
-use Rattle.batch.specs.Map.{Hint, HintAt, Hinted, Chunk, Marked, Stretch, FilledIs, Among, Drew, Draws, Drawn, Noted, Starts, Charted, Surveys, Surveyed, Lines, Mapped}
+use Rattle.sorting.specs.Sorted.{sorted}
+use Rattle.sorting.specs.Sort.{Held, FirstSorted}
+use Rattle.batch.specs.Keep.{In}
+use Rattle.batch.specs.Map.{Hint, HintAt, Hinted, Chunk, Marked, Stretch, FilledIs, Among, Drew, Draws, Drawn, CutAt, Noted, Starts, Charted, Surveys, Surveyed, Lines, Mapped}
 use Rattle.batch.specs.Map as map
-use Rattle.batch.proofs.Sorting.{All, cons, climbing-at, in-sorted, all-at, all-in, all-by, all-weak, all-sorted, Climbing, flat, up, climbing-sorted, length-sorted}
-use Rattle.batch.proofs.Precede.{never-self}
-use Rattle.batch.proofs.Keeping.{size-some, messages-ahead, messages-good, messages-append, messages-same, in-all, in-append, in-behind}
+use Rattle.sorting.proofs.Sorting.{All, cons, climbing-at, all-at, all-by, all-weak, all-sorted, Climbing, flat, up, climbing-sorted, length-sorted}
+use Rattle.batch.proofs.Sorting.{in-sorted, all-in}
+use Rattle.sorting.proofs.Precede.{never-self}
+use Rattle.batch.proofs.Keeping.{size-some, messages-ahead, messages-good, messages-append, Halves, messages-halves, messages-same, in-all, in-append, in-behind}
 
 -- ---- fill
 
@@ -169,39 +171,75 @@ pub ruleset drawing = (draw-start, draw-done, draw-few, draw-some, draw-long, dr
 
 -- ---- note
 
-pub note-done : (l : List ℕ) (c from over least most : ℕ) → length l ≡ 512 → c < 128 →
-    Noted l c from over least most (set (set (set (set l (4 * c) from) (4 * c + 1) over) (4 * c + 2) least) (4 * c + 3) most)
-note-done l c from over least most e h = record {
-  long = length-set l₃ (4 * c + 3) most ∙ length-set l₂ (4 * c + 2) least ∙ length-set l₁ (4 * c + 1) over ∙ length-set l (4 * c) from;
-  from-is = not-three (4 * c) (λ z. omega arith) ∙ not-two (4 * c) (λ z. omega arith) ∙ not-one (4 * c) (λ z. omega arith) ∙ getD-set-same l (4 * c) from 0 (omega arith);
-  over-is = not-three (4 * c + 1) (λ z. omega arith) ∙ not-two (4 * c + 1) (λ z. omega arith) ∙ getD-set-same l₁ (4 * c + 1) over 0 (omega (arith, length-set l (4 * c) from));
-  least-is = not-three (4 * c + 2) (λ z. omega arith) ∙ getD-set-same l₂ (4 * c + 2) least 0 (omega (arith, length-set l₁ (4 * c + 1) over, length-set l (4 * c) from));
-  most-is = getD-set-same l₃ (4 * c + 3) most 0 (omega (arith, length-set l₂ (4 * c + 2) least, length-set l₁ (4 * c + 1) over, length-set l (4 * c) from));
-  before = λ k z. others k (λ y. omega arith) (λ y. omega arith) (λ y. omega arith) (λ y. omega arith);
-  behind = λ k z. others k (λ y. omega arith) (λ y. omega arith) (λ y. omega arith) (λ y. omega arith);
-}
-  where
-    l₁ : List ℕ
-    l₁ = set l (4 * c) from
+module _ (l : List ℕ) (c from mid over least most : ℕ) where
+  abbrev l₁ : List ℕ
+  l₁ = set l (5 * c) from
 
-    l₂ : List ℕ
-    l₂ = set (set l (4 * c) from) (4 * c + 1) over
+  abbrev l₂ : List ℕ
+  l₂ = set (set l (5 * c) from) (5 * c + 1) mid
 
-    l₃ : List ℕ
-    l₃ = set (set (set l (4 * c) from) (4 * c + 1) over) (4 * c + 2) least
+  abbrev l₃ : List ℕ
+  l₃ = set (set (set l (5 * c) from) (5 * c + 1) mid) (5 * c + 2) over
 
-    not-three : (k : ℕ) → (k ≡ 4 * c + 3 → ⊥) → getD (set (set (set (set l (4 * c) from) (4 * c + 1) over) (4 * c + 2) least) (4 * c + 3) most) k 0 ≡ getD (set (set (set l (4 * c) from) (4 * c + 1) over) (4 * c + 2) least) k 0
-    not-three k n = getD-set-other (set (set (set l (4 * c) from) (4 * c + 1) over) (4 * c + 2) least) (4 * c + 3) k most 0 n
+  abbrev l₄ : List ℕ
+  l₄ = set (set (set (set l (5 * c) from) (5 * c + 1) mid) (5 * c + 2) over) (5 * c + 3) least
 
-    not-two : (k : ℕ) → (k ≡ 4 * c + 2 → ⊥) → getD (set (set (set l (4 * c) from) (4 * c + 1) over) (4 * c + 2) least) k 0 ≡ getD (set (set l (4 * c) from) (4 * c + 1) over) k 0
-    not-two k n = getD-set-other (set (set l (4 * c) from) (4 * c + 1) over) (4 * c + 2) k least 0 n
+  abbrev l₅ : List ℕ
+  l₅ = set (set (set (set (set l (5 * c) from) (5 * c + 1) mid) (5 * c + 2) over) (5 * c + 3) least) (5 * c + 4) most
 
-    not-one : (k : ℕ) → (k ≡ 4 * c + 1 → ⊥) → getD (set (set l (4 * c) from) (4 * c + 1) over) k 0 ≡ getD (set l (4 * c) from) k 0
-    not-one k n = getD-set-other (set l (4 * c) from) (4 * c + 1) k over 0 n
+  other₁ : (k : ℕ) → (k ≡ 5 * c → ⊥) → getD l₁ k 0 ≡ getD l k 0
+  other₁ k n = getD-set-other l (5 * c) k from 0 n
 
-    others : (k : ℕ) → (k ≡ 4 * c + 3 → ⊥) → (k ≡ 4 * c + 2 → ⊥) → (k ≡ 4 * c + 1 → ⊥) → (k ≡ 4 * c → ⊥) →
-        getD (set (set (set (set l (4 * c) from) (4 * c + 1) over) (4 * c + 2) least) (4 * c + 3) most) k 0 ≡ getD l k 0
-    others k a b d e = not-three k a ∙ not-two k b ∙ not-one k d ∙ getD-set-other l (4 * c) k from 0 e
+  other₂ : (k : ℕ) → (k ≡ 5 * c + 1 → ⊥) → getD l₂ k 0 ≡ getD l₁ k 0
+  other₂ k n = getD-set-other l₁ (5 * c + 1) k mid 0 n
+
+  other₃ : (k : ℕ) → (k ≡ 5 * c + 2 → ⊥) → getD l₃ k 0 ≡ getD l₂ k 0
+  other₃ k n = getD-set-other l₂ (5 * c + 2) k over 0 n
+
+  other₄ : (k : ℕ) → (k ≡ 5 * c + 3 → ⊥) → getD l₄ k 0 ≡ getD l₃ k 0
+  other₄ k n = getD-set-other l₃ (5 * c + 3) k least 0 n
+
+  other₅ : (k : ℕ) → (k ≡ 5 * c + 4 → ⊥) → getD l₅ k 0 ≡ getD l₄ k 0
+  other₅ k n = getD-set-other l₄ (5 * c + 4) k most 0 n
+
+  long₁ : length l₁ ≡ length l
+  long₁ = length-set l (5 * c) from
+
+  long₂ : length l₂ ≡ length l
+  long₂ = length-set l₁ (5 * c + 1) mid ∙ long₁
+
+  long₃ : length l₃ ≡ length l
+  long₃ = length-set l₂ (5 * c + 2) over ∙ long₂
+
+  long₄ : length l₄ ≡ length l
+  long₄ = length-set l₃ (5 * c + 3) least ∙ long₃
+
+  long₅ : length l₅ ≡ length l
+  long₅ = length-set l₄ (5 * c + 4) most ∙ long₄
+
+  pub note-done : length l ≡ 560 → c < 112 → Noted l c from mid over least most l₅
+  note-done e h = record {
+    long = long₅;
+    from-is = other₅ (5 * c) (λ z. omega arith) ∙ other₄ (5 * c) (λ z. omega arith) ∙ other₃ (5 * c) (λ z. omega arith) ∙ other₂ (5 * c) (λ z. omega arith) ∙ getD-set-same l (5 * c) from 0 (omega arith);
+    mid-is = other₅ (5 * c + 1) (λ z. omega arith) ∙ other₄ (5 * c + 1) (λ z. omega arith) ∙ other₃ (5 * c + 1) (λ z. omega arith) ∙ getD-set-same l₁ (5 * c + 1) mid 0 (omega (arith, long₁));
+    over-is = other₅ (5 * c + 2) (λ z. omega arith) ∙ other₄ (5 * c + 2) (λ z. omega arith) ∙ getD-set-same l₂ (5 * c + 2) over 0 (omega (arith, long₂));
+    least-is = other₅ (5 * c + 3) (λ z. omega arith) ∙ getD-set-same l₃ (5 * c + 3) least 0 (omega (arith, long₃));
+    most-is = getD-set-same l₄ (5 * c + 4) most 0 (omega (arith, long₄));
+    before = λ k z. others k (λ y. omega arith) (λ y. omega arith) (λ y. omega arith) (λ y. omega arith) (λ y. omega arith);
+    behind = λ k z. others k (λ y. omega arith) (λ y. omega arith) (λ y. omega arith) (λ y. omega arith) (λ y. omega arith);
+  }
+    where
+      others : (k : ℕ) → (k ≡ 5 * c + 4 → ⊥) → (k ≡ 5 * c + 3 → ⊥) → (k ≡ 5 * c + 2 → ⊥) → (k ≡ 5 * c + 1 → ⊥) → (k ≡ 5 * c → ⊥) → getD l₅ k 0 ≡ getD l k 0
+      others k v w x y z = other₅ k v ∙ other₄ k w ∙ other₃ k x ∙ other₂ k y ∙ other₁ k z
+
+module _ (at mid r : ℕ) where
+  pub cut-start : r ≡ at → CutAt at mid r
+  cut-start e = map.start e
+
+  pub cut-middle : r ≡ mid → CutAt at mid r
+  cut-middle e = map.middle e
+
+pub ruleset cutting = (cut-start, cut-middle)
 
 pub ruleset noting = (note-done)
 
@@ -227,10 +265,10 @@ module _ (s : Bytes) (stop at c : ℕ) (marks l : List ℕ) (t : Starts s stop a
   pub chart-len : length l ≡ 6_000
   chart-len = t .len
 
-  pub chart-marks : length marks ≡ 512
+  pub chart-marks : length marks ≡ 560
   chart-marks = t .marked .long
 
-  pub chart-small : c < 128
+  pub chart-small : c < 112
   chart-small = t .small
 
   module _ (m : List ℕ) (f : Filled) (u : FilledIs s at stop m f) where
@@ -239,6 +277,9 @@ module _ (s : Bytes) (stop at c : ℕ) (marks l : List ℕ) (t : Starts s stop a
 
     pub chart-some : 1 ≤ f .n
     chart-some = u .some (t .ahead)
+
+    pub chart-mid : f .n / 2 < length m
+    chart-mid = omega (arith, chart-some, chart-few)
 
     pub chart-held : Held s (take (f .n) m)
     chart-held = rw (u .is) (record { each = all-at (messages-good (u .messages)) })
@@ -265,10 +306,26 @@ module _ (s : Bytes) (stop at c : ℕ) (marks l : List ℕ) (t : Starts s stop a
       good-at : (i : ℕ) → i < f .n → Payload s (getD k i 0)
       good-at i h = rw (at-place i h) (all-at (all-sorted s (messages-good (u .messages))) i (omega (arith, count)))
 
-      chunk : Chunk s stop at (f .over) (getD k 0 0) (getD k (f .n - 1) 0)
-      chunk = record {
+      halves : Halves s at (getD m (f .n / 2) 0) (f .over)
+      halves =
+          let h : f .n / 2 < f .n = omega (arith, chart-some) in
+          let n : length (u .cs) ≡ f .n = ap length (sym (u .is)) ∙ length-take-le (f .n) m chart-few in
+          let e : getD (u .cs) (f .n / 2) 0 ≡ getD m (f .n / 2) 0 = ap (λ (y : List ℕ). getD y (f .n / 2) 0) (sym (u .is)) ∙ getD-take (f .n) m (f .n / 2) 0 h in
+          rw e at (messages-halves (u .messages) (f .n / 2) (omega (arith, n)))
+
+      pub chart-there : f .n / 2 < length k
+      chart-there = omega (arith, chart-some, chart-long, u .few)
+
+      cut-halves : (r : ℕ) → CutAt at (getD m (f .n / 2) 0) r → Halves s at r (f .over)
+      cut-halves r (map.start e) = rw e (record { first = record { xs = []; messages = done }; second = record { xs = u .cs; messages = u .messages } })
+      cut-halves r (map.middle e) = rw e halves
+
+      chunk : (r : ℕ) → CutAt at (getD m (f .n / 2) 0) r → Chunk s stop at r (f .over) (getD k 0 0) (getD k (f .n - 1) 0)
+      chunk r d = record {
         cs = u .cs;
         messages = u .messages;
+        first = cut-halves r d .first;
+        second = cut-halves r d .second;
         within = messages-ahead (u .ahead);
         least-good = good-at 0 (omega (arith, chart-some));
         most-good = good-at (f .n - 1) (omega (arith, chart-some));
@@ -276,8 +333,8 @@ module _ (s : Bytes) (stop at c : ℕ) (marks l : List ℕ) (t : Starts s stop a
         highest = λ x i. rw (at-place (f .n - 1) (omega (arith, chart-some))) (in-all (in-sorted s i) (rw count at (last-highest s (climbing-sorted s (u .cs)) (omega (arith, count, chart-some)))));
       }
 
-      pub chart-done : (n : List ℕ) → Noted marks c at (f .over) (getD k 0 0) (getD k (f .n - 1) 0) n → Charted s stop at n k f
-      chart-done n w = record {
+      pub chart-done : (r : ℕ) → CutAt at (getD m (f .n / 2) 0) r → (n : List ℕ) → Noted marks c at r (f .over) (getD k 0 0) (getD k (f .n - 1) 0) n → Charted s stop at n k f
+      chart-done r d n w = record {
         cs = u .cs;
         messages = u .messages;
         stretch = record { xs = u .rest; messages = u .ahead };
@@ -288,18 +345,18 @@ module _ (s : Bytes) (stop at c : ℕ) (marks l : List ℕ) (t : Starts s stop a
         each = λ i h. rw (at-place i h) (all-at (all-sorted s (all-in (u .cs))) i (omega (arith, count)));
       }
         where
-          same : (b : ℕ) → b < 128 → (getD n (4 * b) 0 ≡ 0 → ⊥) → ((j : ℕ) → j < 4 → getD n (4 * b + j) 0 ≡ getD marks (4 * b + j) 0) →
-              getD n (4 * b) 0 ≡ getD marks (4 * b) 0 → Chunk s stop (getD n (4 * b) 0) (getD n (4 * b + 1) 0) (getD n (4 * b + 2) 0) (getD n (4 * b + 3) 0)
+          same : (b : ℕ) → b < 112 → (getD n (5 * b) 0 ≡ 0 → ⊥) → ((j : ℕ) → j < 5 → getD n (5 * b + j) 0 ≡ getD marks (5 * b + j) 0) →
+              getD n (5 * b) 0 ≡ getD marks (5 * b) 0 → Chunk s stop (getD n (5 * b) 0) (getD n (5 * b + 1) 0) (getD n (5 * b + 2) 0) (getD n (5 * b + 3) 0) (getD n (5 * b + 4) 0)
           same b h z e g =
-              rw (g, e 1 (omega arith), e 2 (omega arith), e 3 (omega arith)) (t .marked .each b h (λ y. z (g ∙ y)))
+              rw (g, e 1 (omega arith), e 2 (omega arith), e 3 (omega arith), e 4 (omega arith)) (t .marked .each b h (λ y. z (g ∙ y)))
 
-          mark : (b : ℕ) → b < 128 → (getD n (4 * b) 0 ≡ 0 → ⊥) → Dec (b ≡ c) → Dec (b ≤ c) →
-              Chunk s stop (getD n (4 * b) 0) (getD n (4 * b + 1) 0) (getD n (4 * b + 2) 0) (getD n (4 * b + 3) 0)
-          mark b h z (yes e) d = rw (e, w .from-is, w .over-is, w .least-is, w .most-is) chunk
-          mark b h z (no e) (yes d) = same b h z (λ j y. w .before (4 * b + j) (omega arith)) (w .before (4 * b) (omega arith))
-          mark b h z (no e) (no d) = same b h z (λ j y. w .behind (4 * b + j) (omega arith)) (w .behind (4 * b) (omega arith))
+          mark : (b : ℕ) → b < 112 → (getD n (5 * b) 0 ≡ 0 → ⊥) → Dec (b ≡ c) → Dec (b ≤ c) →
+              Chunk s stop (getD n (5 * b) 0) (getD n (5 * b + 1) 0) (getD n (5 * b + 2) 0) (getD n (5 * b + 3) 0) (getD n (5 * b + 4) 0)
+          mark b h z (yes e) v = rw (e, w .from-is, w .mid-is, w .over-is, w .least-is, w .most-is) (chunk r d)
+          mark b h z (no e) (yes d) = same b h z (λ j y. w .before (5 * b + j) (omega arith)) (w .before (5 * b) (omega arith))
+          mark b h z (no e) (no d) = same b h z (λ j y. w .behind (5 * b + j) (omega arith)) (w .behind (5 * b) (omega arith))
 
-pub ruleset charting = (chart-stretch, chart-len, chart-marks, chart-small, chart-few, chart-some, chart-held, chart-long, chart-first, chart-last, chart-done)
+pub ruleset charting = (chart-stretch, chart-len, chart-marks, chart-small, chart-few, chart-some, chart-mid, chart-held, chart-long, chart-first, chart-last, chart-there, chart-done)
 
 -- ---- chunks
 
@@ -310,7 +367,7 @@ pub record Surveying (s : Bytes) (stop every : ℕ) (marks hints l : List ℕ) (
   pub surveyed : Surveyed s stop marks hints l held
   pub some : 1 ≤ every
   pub small : every < 4_294_967_296
-  pub few : c ≤ 128
+  pub few : c ≤ 112
 
 pub chunks-start : (s : Bytes) (stop every : ℕ) (marks hints l : List ℕ) → Surveys s stop marks hints l → 1 ≤ every → every < 4_294_967_296 →
     Surveying s stop every marks hints l 8 0 0
@@ -331,10 +388,10 @@ module _ (s : Bytes) (stop every : ℕ) (marks hints l : List ℕ) (at c held : 
   pub chunks-some : 1 ≤ every
   chunks-some = t .some
 
-  pub chunks-few : c ≤ 128
+  pub chunks-few : c ≤ 112
   chunks-few = t .few
 
-  module _ (h : at < stop) (g : c ≡ 128 → ⊥) where
+  module _ (h : at < stop) (g : c ≡ 112 → ⊥) where
     pub chunks-starts : Starts s stop at c marks l
     chunks-starts = record { stretch = t .stretch; ahead = h; small = omega (arith, t .few); marked = t .surveyed .marked; len = t .surveyed .len }
 
@@ -413,8 +470,8 @@ module _ (s : Bytes) (stop : ℕ) (l : List ℕ) (held : ℕ) (t : Lines s stop 
 pub ruleset lining = (line-few, line-held, line-long, line-done)
 
 -- with nothing known there is nothing to prove
-pub marked-none : (s : Bytes) (stop : ℕ) → Marked s stop (replicate 512 0)
-marked-none s stop = record { long = length-replicate {A = ℕ} 512 0; each = λ c h n. absurd (n (getD-replicate {A = ℕ} 512 (4 * c) 0 0 (omega arith))) }
+pub marked-none : (s : Bytes) (stop : ℕ) → Marked s stop (replicate 560 0)
+marked-none s stop = record { long = length-replicate {A = ℕ} 560 0; each = λ c h n. absurd (n (getD-replicate {A = ℕ} 560 (5 * c) 0 0 (omega arith))) }
 
 pub hinted-none : (s : Bytes) (stop : ℕ) → Hinted s stop (replicate 962 0)
 hinted-none s stop = record { long = length-replicate {A = ℕ} 962 0; each = λ k h. map.none (getD-replicate {A = ℕ} 962 k 0 0 (omega arith)) }

@@ -5,11 +5,14 @@ use mathlib.Core.List.{List, [], _∷_, _++_}
 use mathlib.Core.Bool.{Bool, true, false, not, cond, _&&_}
 use lib.Dec.{eqb}
 use lib.ListN.{length, getD, take, drop, set}
+use Rattle.number.specs.Number.{wordAt}
 use Rattle.payload.specs.Content.{Bytes}
 use Rattle.item.specs.Front.{frontKey}
-use Rattle.heard.specs.Place.{Messages, Payload, keyAt, precedes}
+use Rattle.heard.specs.Place.{Messages, Payload, typeAt, keyAt, precedes}
+use Rattle.sorting.specs.Sorted.{sorted}
+use Rattle.sorting.specs.Sort.{SortedIs}
 use Rattle.batch.specs.declared.collect.Part.{Part}
-use Rattle.batch.specs.Next.{sorted, isAbove}
+use Rattle.batch.specs.Next.{isAbove}
 
 -- those that pass a test
 abbrev pub only : (ℕ → Bool) → List ℕ → List ℕ
@@ -27,6 +30,10 @@ isWanted s low top x = isAbove s low x && isUpTo s top x
 unfoldable pub frontOr : Bytes → ℕ → ℕ → ℕ
 frontOr s x none = cond (eqb x 0) none (frontKey (keyAt s x))
 
+-- the word behind the front of an IPv6 prefix; of another message, and of none (0), this number
+unfoldable pub wordOr : Bytes → ℕ → ℕ → ℕ
+wordOr s x none = cond (eqb x 0) none (cond (eqb (typeAt s x) 6) (wordAt s (x + 18)) none)
+
 -- x stands in the list
 pub data In (x : ℕ) : List ℕ → Type 0 where
   here : {xs : List ℕ} → In x (x ∷ xs)
@@ -37,50 +44,6 @@ pub data Bound (s : Bytes) (x : ℕ) : Type 0 where
   none : x ≡ 0 → Bound s x
   one : Payload s x → Bound s x
 
--- each offset held is that of a payload message
-pub record Held (s : Bytes) (l : List ℕ) : Type 0 where
-  pub each : (k : ℕ) → k < length l → Payload s (getD l k 0)
-
--- the first i are in message order
-pub record Climbs (s : Bytes) (l : List ℕ) (i : ℕ) : Type 0 where
-  pub up : (a b : ℕ) → a < b → b < i → precedes s (getD l b 0) (getD l a 0) ≡ false
-
--- ---- sorting
-
--- one at i goes down among those before it
-pub record Settles (s : Bytes) (l : List ℕ) (i gap : ℕ) : Type 0 where
-  pub held : Held s l
-  pub within : i < length l
-  pub some : 1 ≤ gap
-
-pub record Settled (s : Bytes) (l₀ l : List ℕ) (i gap : ℕ) : Type 0 where
-  pub held : Held s l
-  pub long : length l ≡ length l₀
-  pub same : sorted s l ≡ sorted s l₀
-  pub order : gap ≡ 1 → Climbs s l₀ i → Climbs s l (i + 1)
-
-pub record Combs (s : Bytes) (l : List ℕ) (gap : ℕ) : Type 0 where
-  pub held : Held s l
-  pub some : 1 ≤ gap
-
-pub record Combed (s : Bytes) (l₀ l : List ℕ) (gap : ℕ) : Type 0 where
-  pub held : Held s l
-  pub long : length l ≡ length l₀
-  pub same : sorted s l ≡ sorted s l₀
-  pub order : gap ≡ 1 → Climbs s l (length l)
-
-pub record Ascends (s : Bytes) (l : List ℕ) (r : Bool) : Type 0 where
-  pub climbs : r ≡ true → Climbs s l (length l)
-
-pub record SortedIs (s : Bytes) (l₀ l : List ℕ) : Type 0 where
-  pub held : Held s l
-  pub is : l ≡ sorted s l₀
-
-pub record FirstSorted (s : Bytes) (l₀ : List ℕ) (n : ℕ) (l : List ℕ) : Type 0 where
-  pub long : length l ≡ length l₀
-  pub is : take n l ≡ sorted s (take n l₀)
-  pub rest : drop n l ≡ drop n l₀
-
 -- ---- collecting
 
 -- what the walk may assume: messages up to `stop`, and `low` 0 or one of them
@@ -89,34 +52,86 @@ pub record Told (s : Bytes) (stop low : ℕ) : Type 0 where
   pub messages : Messages s 8 xs stop
   pub bound : Bound s low
 
-pub record Trims (s : Bytes) (l : List ℕ) (n : ℕ) : Type 0 where
+-- the fronts between which those lie that may be held
+pub record Fronts (s : Bytes) (low : ℕ) (p : Part) : Type 0 where
+  pub least : p .least ≡ frontOr s low 0
+  pub most : p .most ≡ frontOr s (p .top) 18_446_744_073_709_551_615
+  pub under : p .under ≡ wordOr s low 0
+  pub over : p .over ≡ wordOr s (p .top) 18_446_744_073_709_551_615
+
+-- false only for a number that is not between the two
+pub record Sifted (x least most : ℕ) (r : Bool) : Type 0 where
+  pub out : r ≡ false → least ≤ x → x ≤ most → ⊥
+
+pub record Trims (s : Bytes) (low : ℕ) (l : List ℕ) (p : Part) : Type 0 where
+  pub low-bound : Bound s low
   pub long : length l ≡ 6_000
-  pub few : n ≤ 6_000
-  pub held : (k : ℕ) → k < n → Payload s (getD l k 0)
+  pub few : p .n ≤ 6_000
+  pub held : (k : ℕ) → k < p .n → Payload s (getD l k 0)
 
 -- a buffer with room stays; of a full one the lower part does, and its last is the top
-pub data Trimmed (s : Bytes) (l₀ : List ℕ) (n top : ℕ) (l : List ℕ) (p : Part) : Type 0 where
-  kept : n < 6_000 → l ≡ l₀ → p ≡ record { n = n; top = top } → Trimmed s l₀ n top l p
-  cut : n ≡ 6_000 → SortedIs s l₀ l → p ≡ record { n = 4_500; top = getD l 4_499 0 } → Trimmed s l₀ n top l p
+pub data Trimmed (s : Bytes) (low : ℕ) (l₀ : List ℕ) (p₀ : Part) (l : List ℕ) (p : Part) : Type 0 where
+  kept : p₀ .n < 6_000 → l ≡ l₀ → p ≡ p₀ → Trimmed s low l₀ p₀ l p
+  cut : p₀ .n ≡ 6_000 → SortedIs s l₀ l → p .n ≡ 4_500 → p .top ≡ getD l 4_499 0 → Fronts s low p → Trimmed s low l₀ p₀ l p
+
+-- what is asked for a message to be passed over by its front
+pub record Meets (s : Bytes) (low at : ℕ) (p : Part) : Type 0 where
+  pub low-bound : Bound s low
+  pub top-bound : Bound s (p .top)
+  pub fronts : Fronts s low p
+  pub good : Payload s at
+
+-- and by the word behind it: all that may be held have its front
+pub record MeetsBehind (s : Bytes) (low at : ℕ) (p : Part) : Type 0 where
+  pub meets : Meets s low at p
+  pub one : p .least ≡ p .most
+  pub front : frontKey (keyAt s at) ≡ p .least
+
+-- it is not wanted, or nothing is known
+pub data Passed (s : Bytes) (low at : ℕ) (p : Part) : Bool → Type 0 where
+  surely : isWanted s low (p .top) at ≡ false → Passed s low at p true
+  unsure : Passed s low at p false
 
 -- what is asked for a message to be taken in
 pub record Takes (s : Bytes) (low at : ℕ) (l : List ℕ) (p : Part) : Type 0 where
-  pub low-bound : Bound s low
-  pub top-bound : Bound s (p .top)
-  pub good : Payload s at
+  pub meets : Meets s low at p
   pub len : length l ≡ 6_000
   pub room : p .n < 6_000
   pub held : (k : ℕ) → k < p .n → Payload s (getD l k 0)
 
+abbrev pub oneMore : Part → Part
+oneMore p = record { n = p .n + 1; top = p .top; least = p .least; most = p .most; under = p .under; over = p .over }
+
 -- it is passed over, or it stands behind those held
 pub data Taken (s : Bytes) (low at : ℕ) (l₀ : List ℕ) (p₀ : Part) (l : List ℕ) (p : Part) : Type 0 where
   passed : isWanted s low (p₀ .top) at ≡ false → l ≡ l₀ → p ≡ p₀ → Taken s low at l₀ p₀ l p
-  taken : isWanted s low (p₀ .top) at ≡ true → Trimmed s (set l₀ (p₀ .n) at) (p₀ .n + 1) (p₀ .top) l p → Taken s low at l₀ p₀ l p
+  taken : isWanted s low (p₀ .top) at ≡ true → Trimmed s low (set l₀ (p₀ .n) at) (oneMore p₀) l p → Taken s low at l₀ p₀ l p
+
+-- two of them, one after the other
+pub data TakesTwo (s : Bytes) (low a b : ℕ) (l : List ℕ) (p : Part) : Type 0 where
+  both : Takes s low a l p → Payload s b → TakesTwo s low a b l p
+
+pub data TakenTwo (s : Bytes) (low a b : ℕ) (l₀ : List ℕ) (p₀ : Part) (l : List ℕ) (p : Part) : Type 0 where
+  both : (m : List ℕ) (q : Part) → Taken s low a l₀ p₀ m q → Taken s low b m q l p → TakenTwo s low a b l₀ p₀ l p
 
 -- 0, or one of these messages, behind `low`
 pub data TopIs (s : Bytes) (xs : List ℕ) (low top : ℕ) : Type 0 where
   all : top ≡ 0 → TopIs s xs low top
   one : In top xs → isAbove s low top ≡ true → TopIs s xs low top
+
+-- of the messages xs those in ws are met: the buffer holds, in some order, those of them behind `low` and not behind the top
+pub record Holds (s : Bytes) (xs ws : List ℕ) (low : ℕ) (l : List ℕ) (p : Part) : Type 0 where
+  pub low-bound : Bound s low
+  pub fronts : Fronts s low p
+  pub len : length l ≡ 6_000
+  pub room : p .n < 6_000
+  pub held : (k : ℕ) → k < p .n → Payload s (getD l k 0)
+  pub is : sorted s (take (p .n) l) ≡ sorted s (only (isWanted s low (p .top)) ws)
+  pub top : TopIs s xs low (p .top)
+
+-- of the messages up to `stop` those before `at` are met
+pub data WalkedTo (s : Bytes) (stop low at : ℕ) (l : List ℕ) (p : Part) : Type 0 where
+  walked : (ps rest : List ℕ) → Messages s 8 ps at → Messages s at rest stop → Holds s (ps ++ rest) ps low l p → WalkedTo s stop low at l p
 
 -- the buffer holds, in some order, the messages up to `stop` behind `low` and not behind the top
 pub record Collected (s : Bytes) (stop low : ℕ) (l : List ℕ) (p : Part) : Type 0 where

@@ -2,14 +2,15 @@
 use Prim.Native.Nat.{ℕ, _+_, _*_, _≤_, _<_}
 use mathlib.Core.Path.{_≡_}
 use mathlib.Core.List.{List}
-use mathlib.Core.Bool.{Bool, true, false}
+use mathlib.Core.Bool.{Bool, true, false, cond}
+use lib.Dec.{leb, eqb}
 use lib.ListN.{length, getD, take, set}
 use Rattle.payload.specs.Content.{Bytes}
 use Rattle.heard.specs.Place.{Messages, Payload, precedes}
-use Rattle.batch.specs.declared.collect.Gap.{Gap}
+use Rattle.batch.specs.declared.collect.Part.{Part}
 use Rattle.batch.specs.declared.survey.Filled.{Filled}
 use Rattle.batch.specs.Next.{isAbove}
-use Rattle.batch.specs.Keep.{In, Bound, isUpTo, isWanted}
+use Rattle.batch.specs.Keep.{In, Bound, isUpTo, Fronts}
 
 -- x is one of the messages up to `stop`
 pub record Hint (s : Bytes) (stop x : ℕ) : Type 0 where
@@ -26,20 +27,32 @@ pub record Hinted (s : Bytes) (stop : ℕ) (l : List ℕ) : Type 0 where
   pub long : length l ≡ 962
   pub each : (k : ℕ) → k < 960 → HintAt s stop (getD l k 0)
 
--- a stretch of messages, none before `least` or behind `most`
-pub record Chunk (s : Bytes) (stop from over least most : ℕ) : Type 0 where
+-- messages from `at` to `stop`
+pub record Stretch (s : Bytes) (at stop : ℕ) : Type 0 where
+  pub xs : List ℕ
+  pub messages : Messages s at xs stop
+
+-- a stretch of messages, one of them at `mid`, none before `least` or behind `most`
+pub record Chunk (s : Bytes) (stop from mid over least most : ℕ) : Type 0 where
   pub cs : List ℕ
   pub messages : Messages s from cs over
+  pub first : Stretch s from mid
+  pub second : Stretch s mid over
   pub within : over ≤ stop
   pub least-good : Payload s least
   pub most-good : Payload s most
   pub lowest : (x : ℕ) → In x cs → precedes s x least ≡ false
   pub highest : (x : ℕ) → In x cs → precedes s most x ≡ false
 
--- 128 chunks: where one starts, where it ends, its first and its last; 0: none
+-- 112 chunks: where one starts, where its second half does, where it ends, its first and its last message in message order; 0: none
 pub record Marked (s : Bytes) (stop : ℕ) (l : List ℕ) : Type 0 where
-  pub long : length l ≡ 512
-  pub each : (c : ℕ) → c < 128 → (getD l (4 * c) 0 ≡ 0 → ⊥) → Chunk s stop (getD l (4 * c) 0) (getD l (4 * c + 1) 0) (getD l (4 * c + 2) 0) (getD l (4 * c + 3) 0)
+  pub long : length l ≡ 560
+  pub each : (c : ℕ) → c < 112 → (getD l (5 * c) 0 ≡ 0 → ⊥) →
+      Chunk s stop (getD l (5 * c) 0) (getD l (5 * c + 1) 0) (getD l (5 * c + 2) 0) (getD l (5 * c + 3) 0) (getD l (5 * c + 4) 0)
+
+-- chunk c starts at `at`
+unfoldable pub isChunk : List ℕ → ℕ → ℕ → Bool
+isChunk l c at = cond (leb 112 c) false (eqb (getD l (5 * c) 0) at)
 
 -- where a batch may end: 0 for anywhere, or at a message behind `low`
 pub data Tops (s : Bytes) (stop low top : ℕ) : Type 0 where
@@ -47,16 +60,12 @@ pub data Tops (s : Bytes) (stop low top : ℕ) : Type 0 where
   one : Hint s stop top → isAbove s low top ≡ true → Tops s stop low top
 
 -- what the test of a chunk may assume
-pub record Clears (s : Bytes) (low top least most : ℕ) : Type 0 where
+pub record Clears (s : Bytes) (low : ℕ) (p : Part) (least most : ℕ) : Type 0 where
   pub low-bound : Bound s low
-  pub top-bound : Bound s top
+  pub top-bound : Bound s (p .top)
+  pub fronts : Fronts s low p
   pub least-good : Payload s least
   pub most-good : Payload s most
-
-pub record Skips (s : Bytes) (stop c at over least most low top : ℕ) : Type 0 where
-  pub small : c < 128
-  pub clears : Clears s low top least most
-  pub chunk : Chunk s stop at over least most
 
 -- nothing of a chunk is wanted
 pub data Clear (s : Bytes) (low top least most : ℕ) : Bool → Type 0 where
@@ -64,17 +73,7 @@ pub data Clear (s : Bytes) (low top least most : ℕ) : Bool → Type 0 where
   before : isAbove s low most ≡ false → Clear s low top least most true
   behind : isUpTo s top least ≡ false → Clear s low top least most true
 
--- the walk goes on where it stands, or behind messages that are not wanted
-pub data Passes (s : Bytes) (stop low top at : ℕ) (r : Gap) : Type 0 where
-  stay : r .at ≡ at → Passes s stop low top at r
-  go : (cs : List ℕ) → Messages s at cs (r .at) → r .at ≤ stop → ((x : ℕ) → In x cs → isWanted s low top x ≡ false) → Passes s stop low top at r
-
 -- ---- the survey
-
--- messages from `at` to `stop`
-pub record Stretch (s : Bytes) (at stop : ℕ) : Type 0 where
-  pub xs : List ℕ
-  pub messages : Messages s at xs stop
 
 pub record FilledIs (s : Bytes) (from stop : ℕ) (l : List ℕ) (r : Filled) : Type 0 where
   pub cs : List ℕ
@@ -115,21 +114,27 @@ pub record Drawn (b : List ℕ) (n : ℕ) (l₀ : List ℕ) (held : ℕ) (l : Li
   pub before : (k : ℕ) → k < held → getD l k 0 ≡ getD l₀ k 0
   pub fresh : (k : ℕ) → held ≤ k → k < r → Among b n (getD l k 0)
 
+-- at the start, or at `mid`
+pub data CutAt (at mid r : ℕ) : Type 0 where
+  start : r ≡ at → CutAt at mid r
+  middle : r ≡ mid → CutAt at mid r
+
 -- a chunk is written down
-pub record Noted (l₀ : List ℕ) (c from over least most : ℕ) (l : List ℕ) : Type 0 where
+pub record Noted (l₀ : List ℕ) (c from mid over least most : ℕ) (l : List ℕ) : Type 0 where
   pub long : length l ≡ length l₀
-  pub from-is : getD l (4 * c) 0 ≡ from
-  pub over-is : getD l (4 * c + 1) 0 ≡ over
-  pub least-is : getD l (4 * c + 2) 0 ≡ least
-  pub most-is : getD l (4 * c + 3) 0 ≡ most
-  pub before : (k : ℕ) → k < 4 * c → getD l k 0 ≡ getD l₀ k 0
-  pub behind : (k : ℕ) → 4 * c + 4 ≤ k → getD l k 0 ≡ getD l₀ k 0
+  pub from-is : getD l (5 * c) 0 ≡ from
+  pub mid-is : getD l (5 * c + 1) 0 ≡ mid
+  pub over-is : getD l (5 * c + 2) 0 ≡ over
+  pub least-is : getD l (5 * c + 3) 0 ≡ least
+  pub most-is : getD l (5 * c + 4) 0 ≡ most
+  pub before : (k : ℕ) → k < 5 * c → getD l k 0 ≡ getD l₀ k 0
+  pub behind : (k : ℕ) → 5 * c + 5 ≤ k → getD l k 0 ≡ getD l₀ k 0
 
 -- what is asked for a chunk to be surveyed
 pub record Starts (s : Bytes) (stop at c : ℕ) (marks l : List ℕ) : Type 0 where
   pub stretch : Stretch s at stop
   pub ahead : at < stop
-  pub small : c < 128
+  pub small : c < 112
   pub marked : Marked s stop marks
   pub len : length l ≡ 6_000
 

@@ -7,17 +7,8 @@ use lib.Dec.{eqb}
 use lib.ListN.{length, take}
 use Rattle.payload.specs.Content.{Bytes}
 use Rattle.heard.specs.Place.{Messages, precedes}
+use Rattle.sorting.specs.Sorted.{sorted}
 use Rattle.batch.specs.declared.next.Batch.{Batch}
-
--- an offset put into its place
-unfoldable pub insert : Bytes → ℕ → List ℕ → List ℕ
-insert s x [] = x ∷ []
-insert s x (y ∷ ys) = cond (precedes s x y) (x ∷ y ∷ ys) (y ∷ insert s x ys)
-
--- offsets in message order
-unfoldable pub sorted : Bytes → List ℕ → List ℕ
-sorted s [] = []
-sorted s (x ∷ xs) = insert s x (sorted s xs)
 
 -- behind the message at `low`; 0 stands before all
 unfoldable pub isAbove : Bytes → ℕ → ℕ → Bool

@@ -1,8 +1,22 @@
 // Where a batch may end: at a hint, so that it fits the buffer. That is for speed alone.
-use crate::collect::is_above;
+use heard::compare::is_before;
+ghost use mathlib.Core.Path.{_≡_};
 ghost use Prim.Native.Nat.{_≤_};
+ghost use Rattle.heard.specs.Place.{Payload};
+ghost use Rattle.batch.specs.Next.{isAbove};
 ghost use Rattle.batch.specs.Keep.{Bound};
 ghost use Rattle.batch.specs.Map.{Hinted, Tops, HintAt};
+
+// Whether a message is behind `low`.
+fn is_behind(s: &[u8], low: usize, at: usize) -> bool
+    requires { ⌜ Bound (now s) low × Payload (now s) at ⌝ }
+    ensures { λ r. ⌜ r ≡ isAbove (now (s .entry)) low at ⌝ }
+{
+    if low == 0 {
+        return true;
+    }
+    is_before(s, low, at)
+}
 
 // The first of n hints behind `low`, where they ascend.
 fn aim(s: &[u8], stop: usize, hints: &[usize; 962], n: usize, low: usize) -> usize
@@ -17,7 +31,7 @@ fn aim(s: &[u8], stop: usize, hints: &[usize; 962], n: usize, low: usize) -> usi
         if x == 0 {
             return b;
         }
-        if is_above(s, low, x) {
+        if is_behind(s, low, x) {
             b = m;
         } else {
             a = m + 1;
@@ -34,7 +48,7 @@ fn behind(s: &[u8], stop: usize, low: usize, x: usize) -> usize
     if x == 0 {
         return 0;
     }
-    if is_above(s, low, x) {
+    if is_behind(s, low, x) {
         return x;
     }
     0

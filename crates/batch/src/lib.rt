@@ -2,5 +2,4 @@
 pub mod bound;
 pub mod collect;
 pub mod next;
-pub mod sort;
 pub mod survey;

@@ -1,7 +1,7 @@
 // The next messages in message order.
 use crate::bound::bound;
 use crate::collect::collect;
-use crate::sort::sort_first;
+use sorting::sort::sort_first;
 ghost use mathlib.Core.Path.{_≡_};
 ghost use lib.ListN.{length};
 ghost use Rattle.batch.specs.Next.{NextIs};
@@ -21,7 +21,7 @@ pub fn next(
     s: &[u8],
     stop: usize,
     low: usize,
-    marks: &[usize; 512],
+    marks: &[usize; 560],
     hints: &[usize; 962],
     buf: &mut [usize; 6000],
 ) -> Batch

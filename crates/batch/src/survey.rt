@@ -1,10 +1,10 @@
 // The survey of the messages: chunks and hints.
-use crate::sort::sort_first;
 use heard::place::size_at;
+use sorting::sort::sort_first;
 ghost use mathlib.Core.Path.{_≡_};
 ghost use Prim.Native.Nat.{_≤_, _<_};
 ghost use lib.ListN.{length};
-ghost use Rattle.batch.specs.Map.{Hinted, Stretch, FilledIs, Draws, Drawn, Noted, Starts, Charted, Surveys, Surveyed, Lines, Mapped};
+ghost use Rattle.batch.specs.Map.{Hinted, Stretch, FilledIs, Draws, Drawn, CutAt, Noted, Starts, Charted, Surveys, Surveyed, Lines, Mapped};
 
 pub struct Filled {
     // How many offsets the buffer holds.
@@ -58,14 +58,33 @@ fn draw(
 }
 
 // A chunk is written down.
-fn note(marks: &mut [usize; 512], c: usize, from: usize, over: usize, least: usize, most: usize)
-    requires { ⌜ (length (now marks) ≡ 512) × (c < 128) ⌝ }
-    ensures { λ r. ⌜ Noted (now (marks .entry)) c from over least most (now (marks .exit)) ⌝ }
+fn note(
+    marks: &mut [usize; 560],
+    c: usize,
+    from: usize,
+    mid: usize,
+    over: usize,
+    least: usize,
+    most: usize,
+)
+    requires { ⌜ (length (now marks) ≡ 560) × (c < 112) ⌝ }
+    ensures { λ r. ⌜ Noted (now (marks .entry)) c from mid over least most (now (marks .exit)) ⌝ }
 {
-    marks[4 * c] = from;
-    marks[4 * c + 1] = over;
-    marks[4 * c + 2] = least;
-    marks[4 * c + 3] = most;
+    marks[5 * c] = from;
+    marks[5 * c + 1] = mid;
+    marks[5 * c + 2] = over;
+    marks[5 * c + 3] = least;
+    marks[5 * c + 4] = most;
+}
+
+// Where a chunk is cut in two. One that ascends is not, so that its messages are met in order; its middle one stays where it is.
+fn cut_at(at: usize, mid: usize, sorted: usize) -> usize
+    ensures { λ r. ⌜ CutAt at mid r ⌝ }
+{
+    if mid == sorted {
+        return at;
+    }
+    mid
 }
 
 // Chunk c, which starts at `at`: its messages stand in the buffer then, in message order.
@@ -74,7 +93,7 @@ fn chart(
     stop: usize,
     at: usize,
     c: usize,
-    marks: &mut [usize; 512],
+    marks: &mut [usize; 560],
     buf: &mut [usize; 6000],
 ) -> Filled
     requires { ⌜ Starts (now s) stop at c (now marks) (now buf) ⌝ }
@@ -82,8 +101,10 @@ fn chart(
 {
     let f = fill(s, at, stop, buf);
     let n = f.n;
+    let mid = buf[n / 2];
     sort_first(s, &mut buf[..], n);
-    note(marks, c, at, f.over, buf[0], buf[n - 1]);
+    let cut = cut_at(at, mid, buf[n / 2]);
+    note(marks, c, at, cut, f.over, buf[0], buf[n - 1]);
     f
 }
 
@@ -92,7 +113,7 @@ fn chunks(
     s: &[u8],
     stop: usize,
     every: usize,
-    marks: &mut [usize; 512],
+    marks: &mut [usize; 560],
     hints: &mut [usize; 962],
     buf: &mut [usize; 6000],
 ) -> usize
@@ -103,7 +124,7 @@ fn chunks(
     let mut c = 0;
     let mut held = 0;
     while at < stop {
-        if c == 128 {
+        if c == 112 {
             return held;
         }
         let f = chart(s, stop, at, c, marks, buf);
@@ -129,7 +150,7 @@ pub fn survey(
     s: &[u8],
     stop: usize,
     count: usize,
-    marks: &mut [usize; 512],
+    marks: &mut [usize; 560],
     hints: &mut [usize; 962],
     buf: &mut [usize; 6000],
 )

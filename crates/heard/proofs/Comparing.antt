@@ -4,6 +4,8 @@ use mathlib.Core.Path.{_≡_, refl, sym, ap, _∙_}
 use mathlib.Core.List.{List, [], _∷_, _++_}
 use mathlib.Core.Bool.{Bool, true, false, cond}
 use native.Mathlib.Omega.{arith}
+use native.Mathlib.Decide.{ℕ-discrete, decLe}
+use borrow.Author.Tests.{eq-eqb, ne-eqb}
 use mir.Syntax.{w8, w64}
 use mir.Val.{Fits}
 use lib.Dec.{eqb, ltb}
@@ -21,23 +23,46 @@ use Rattle.payload.specs.Content.{Bytes}
 use Rattle.item.specs.Front.{packs, frontKey}
 use Rattle.item.proofs.Fronts.{front-less, front-greater}
 use Rattle.heard.specs.Place.{typeAt, sizeAt, keyAt, Sized, v4, v6, key, Payload, before, precedes}
-use Rattle.heard.specs.Compare.{Of, Fronted, Alike}
+use Rattle.heard.specs.Compare.{Of, Fronted, FrontOf, Alike}
 use Rattle.heard.proofs.Keys.{byteAt, word-from, four-from, fourKey, four-key, sixKey, six-key, router-key}
 use Rattle.heard.proofs.Places.{four-small, low-half, high-half, least, long, third, size-least}
 use Rattle.heard.proofs.Fronts.{front-four, front-six, front-key}
 
--- ---- compare_numbers
+-- ---- is_below
 
-pub less-is : (x y : ℕ) → x < y → Less ≡ number x y
-less-is x y h = sym (number-less x y h)
+module _ (p q : ℕ) (b : Bool) where
+  pub below-less : p < q → true ≡ before (number p q) b
+  below-less h = rw (number-less p q h)
 
-pub greater-is : (x y : ℕ) → y < x → Greater ≡ number x y
-greater-is x y h = sym (number-greater x y h)
+  pub below-greater : q < p → false ≡ before (number p q) b
+  below-greater h = rw (number-greater p q h)
 
-pub equal-is : (x y : ℕ) → y ≤ x → x ≤ y → Equal ≡ number x y
-equal-is x y h k = sym (number-equal x y (omega arith))
+  pub below-equal : q ≤ p → p ≤ q → b ≡ before (number p q) b
+  below-equal h k = rw (number-equal p q (omega arith))
 
-pub ruleset numbers = (less-is, greater-is, equal-is)
+pub ruleset below = (below-less, below-greater, below-equal)
+
+-- equal numbers
+data Compared (p q : ℕ) : Type 0 where
+  lt : p < q → Compared p q
+  eq : p ≡ q → Compared p q
+  gt : q < p → Compared p q
+
+ℕ-compare : (p q : ℕ) → Compared p q
+ℕ-compare p q = go (ℕ-discrete p q) (decLe p q)
+  where
+    go : Dec (p ≡ q) → Dec (p ≤ q) → Compared p q
+    go (yes e) d = eq e
+    go (no n) (yes h) = lt (omega arith)
+    go (no n) (no h) = gt (omega arith)
+
+same-number : (p q : ℕ) → isEqual (number p q) ≡ eqb p q
+same-number p q = go (ℕ-compare p q)
+  where
+    go : Compared p q → isEqual (number p q) ≡ eqb p q
+    go (lt h) = rw (number-less p q h, ne-eqb p q (λ e. omega arith))
+    go (eq e) = rw (number-equal p q e, eq-eqb p q e)
+    go (gt h) = rw (number-greater p q h, ne-eqb p q (λ e. omega arith))
 
 -- ---- four_last, six_last
 
@@ -92,6 +117,11 @@ module _ (s : Bytes) (at : ℕ) (o : Octets s) where
         let h : wordAt s (at + 24) / 4_294_967_296 % 65_536 ≡ byteAt s at 26 * 256 + byteAt s at 27 = rw (high-half s o (at + 24), four-from s at 24) (omega (arith, o (at + 26) .fits, o (at + 27) .fits)) in
         let k : wordAt (sixKey (byteAt s at)) 16 ≡ ((byteAt s at 26 * 256 + byteAt s at 27) * 65_536 + (byteAt s at 9 * 256 + byteAt s at 10)) * 4_294_967_296 + four (byteAt s at 28) (byteAt s at 29) (byteAt s at 30) (byteAt s at 31) = omega arith in
         rw (d, e, six-key s at (f .type) (six-long f), k, lengths-at, g, h)
+
+pub middle-in : (s : Bytes) (at : ℕ) → Of s 6 at → at + 18 + 8 ≤ length s
+middle-in s at f = let n : at + 32 ≤ length s = long s at (f .payload) (λ h. let z : _≡_ {A = ℕ} 4 6 = sym h ∙ f .type in omega arith) in omega (arith, n)
+
+pub ruleset middles = (middle-in)
 
 pub ruleset lasts = (four-second, four-third, four-last-is, six-second, six-third, six-last-is)
 
@@ -209,16 +239,34 @@ module _ (s : Bytes) (o : Octets s) (x y : ℕ) where
       read : bytes (keyAt s x) (keyAt s y) ≡ orElse (number p q) (number (wordAt (keyAt s x) 16) (wordAt (keyAt s y) 16))
       read = rw (d, e) six-decide
 
-      pub six-less : p < q → Decides Less
-      six-less h = sym (read ∙ rw (number-less p q h))
+      pub six-less : p < q → true ≡ precedes s x y
+      unfolding precedes
+      six-less h = let e : bytes (keyAt s x) (keyAt s y) ≡ Less = read ∙ rw (number-less p q h) in rw e
 
-      pub six-greater : q < p → Decides Greater
-      six-greater h = sym (read ∙ rw (number-greater p q h))
+      pub six-greater : q < p → false ≡ precedes s x y
+      unfolding precedes
+      six-greater h = let e : bytes (keyAt s x) (keyAt s y) ≡ Greater = read ∙ rw (number-greater p q h) in rw e
 
-      pub six-rest : q ≤ p → p ≤ q → (u w : ℕ) → u ≡ wordAt (keyAt s x) 16 → w ≡ wordAt (keyAt s y) 16 → (r : Ordering) → r ≡ number u w → Decides r
-      six-rest h k u w f g r t = t ∙ rw (f, g) (sym (read ∙ rw (number-equal p q (omega arith))))
+      module _ (u w : ℕ) (f : u ≡ wordAt (keyAt s x) 16) (g : w ≡ wordAt (keyAt s y) 16) where
+        six-last : p ≡ q → bytes (keyAt s x) (keyAt s y) ≡ number u w
+        six-last h = rw (f, g) (read ∙ rw (number-equal p q h))
 
-pub ruleset sixes = (alike-one, alike-other, six-x, six-y, six-less, six-greater, six-rest)
+        pub six-rest : q ≤ p → p ≤ q → (r : Bool) → r ≡ before (number u w) (ltb x y) → r ≡ precedes s x y
+        unfolding precedes
+        six-rest h k r e = e ∙ ap (λ (o : Ordering). before o (ltb x y)) (sym (six-last (omega arith)))
+
+        pub six-same : p ≡ q → eqb u w ≡ isEqual (bytes (keyAt s x) (keyAt s y))
+        six-same h = sym (ap isEqual (six-last h) ∙ same-number u w)
+
+      pub six-other : (p ≡ q → ⊥) → false ≡ isEqual (bytes (keyAt s x) (keyAt s y))
+      six-other n = go (ℕ-compare p q)
+        where
+          go : Compared p q → false ≡ isEqual (bytes (keyAt s x) (keyAt s y))
+          go (lt h) = let e : bytes (keyAt s x) (keyAt s y) ≡ Less = read ∙ rw (number-less p q h) in rw e
+          go (eq e) = absurd (n e)
+          go (gt h) = let e : bytes (keyAt s x) (keyAt s y) ≡ Greater = read ∙ rw (number-greater p q h) in rw e
+
+pub ruleset sixes = (alike-one, alike-other, six-x, six-y, six-less, six-greater, six-rest, six-same, six-other)
 
 module _ (s : Bytes) (x y : ℕ) where
   module _ (a : Alike s 9 x y) where
@@ -258,8 +306,8 @@ word-small s o i = plain (fourAt s i) (fourAt s (i + 4)) (four-small s o i) (fou
 module _ (s : Bytes) (o : Octets s) where
   four-below : (at : ℕ) → Payload s at → typeAt s at ≡ 4 → frontKey (keyAt s at) < 0x0105000000000000
   four-below at p t =
-      let e = front-four s at p o t (wordAt s (at + 8)) refl in
-      omega (arith, e)
+      let e = front-four s at p o t (wordAt s (at + 12)) refl in
+      omega (arith, e, word-small s o (at + 12))
 
   six-above : (at : ℕ) → Payload s at → typeAt s at ≡ 6 → 0x0106000000000000 ≤ frontKey (keyAt s at)
   six-above at p t = let e = front-six s at p o t (wordAt s (at + 12)) refl in omega (arith, e)
@@ -306,18 +354,26 @@ module _ (s : Bytes) (o : Octets s) (x y : ℕ) (f : Fronted s x y) where
     pub behind-keys : (k ≡ 4 → ⊥) → (k ≡ 6 → ⊥) → Alike s 9 x y
     behind-keys g h = alike 9 (third s x (f .one) (λ e. g (d ∙ e)) (λ e. h (d ∙ e)))
 
-    pub four-decide : k ≡ 4 → (u w : ℕ) → u ≡ wordAt (keyAt s x) 16 → w ≡ wordAt (keyAt s y) 16 → (r : Ordering) → r ≡ number u w → r ≡ bytes (keyAt s x) (keyAt s y)
-    unfolding wordAt
-    four-decide e u w g h r t =
-        let i = four-key s x (behind-four e .type) (least s x (f .one)) in
-        let j = four-key s y (behind-four-2 e .type) (least s y (f .other)) in
-        let m : length (keyAt s x) ≡ 24 = rw i in
-        let n : length (keyAt s y) ≡ 24 = rw j in
-        let p : wordAt (keyAt s x) 8 ≡ 0 = rw i in
-        let q : wordAt (keyAt s y) 8 ≡ 0 = rw j in
-        t ∙ rw (g, h) (sym (prefixes s o x y m n (f .front) ∙ rw (p, q)))
+    module _ (e : k ≡ 4) (u w : ℕ) (g : u ≡ wordAt (keyAt s x) 16) (h : w ≡ wordAt (keyAt s y) 16) where
+      four-last : bytes (keyAt s x) (keyAt s y) ≡ number u w
+      unfolding wordAt
+      four-last =
+          let i = four-key s x (behind-four e .type) (least s x (f .one)) in
+          let j = four-key s y (behind-four-2 e .type) (least s y (f .other)) in
+          let m : length (keyAt s x) ≡ 24 = rw i in
+          let n : length (keyAt s y) ≡ 24 = rw j in
+          let p : wordAt (keyAt s x) 8 ≡ 0 = rw i in
+          let q : wordAt (keyAt s y) 8 ≡ 0 = rw j in
+          rw (g, h) (prefixes s o x y m n (f .front) ∙ rw (p, q))
 
-pub ruleset behinds = (behind-one, behind-four, behind-four-2, behind-six, behind-keys, four-decide)
+      pub four-before : (r : Bool) → r ≡ before (number u w) (ltb x y) → r ≡ precedes s x y
+      unfolding precedes
+      four-before r d = d ∙ ap (λ (z : Ordering). before z (ltb x y)) (sym four-last)
+
+      pub four-same : eqb u w ≡ isEqual (bytes (keyAt s x) (keyAt s y))
+      four-same = sym (ap isEqual four-last ∙ same-number u w)
+
+pub ruleset behinds = (behind-one, behind-four, behind-four-2, behind-six, behind-keys, four-before, four-same)
 
 -- ---- is_before, same_record
 
@@ -364,5 +420,20 @@ module _ (s : Bytes) (o : Octets s) (x y : ℕ) (a : Payload s x) (b : Payload s
 
   pub front-other-2 : q < p → false ≡ isEqual (bytes (keyAt s x) (keyAt s y))
   front-other-2 h = same-greater s x y Greater (fronts-greater h) refl
+
+module _ (s : Bytes) (o : Octets s) (p x q y : ℕ) (a : FrontOf s p x) (b : FrontOf s q y) where
+  pub by-before : p < q → true ≡ precedes s x y
+  by-before = front-before s o x y (a .payload) (b .payload) p q (a .is) (b .is)
+
+  pub by-behind : q < p → false ≡ precedes s x y
+  by-behind = front-behind s o x y (a .payload) (b .payload) p q (a .is) (b .is)
+
+  pub by-same : q ≤ p → p ≤ q → Fronted s x y
+  by-same = fronts-same s o x y (a .payload) (b .payload) p q (a .is) (b .is)
+
+pub front-of : (s : Bytes) (p x : ℕ) → Payload s x → p ≡ frontKey (keyAt s x) → FrontOf s p x
+front-of s p x a e = record { payload = a; is = e }
+
+pub ruleset by-fronts = (by-before, by-behind, by-same, front-of)
 
 pub ruleset comparing = (front-before, front-behind, front-other, front-other-2, fronts-same, before-less, before-equal, before-greater, same-less, same-equal, same-greater)

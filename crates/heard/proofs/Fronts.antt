@@ -2,10 +2,12 @@
 use Prim.Native.Nat.{ℕ, zero, suc, _+_, _-_, _*_, _/_, _%_, _<_, _≤_}
 use mathlib.Core.Path.{_≡_, refl, sym, ap, _∙_}
 use mathlib.Core.List.{List, [], _∷_, _++_}
-use mathlib.Core.Bool.{Bool, true, false}
+use mathlib.Core.Bool.{Bool, true, false, cond}
 use native.Mathlib.Omega.{arith}
+use borrow.Author.Tests.{ne-eqb}
 use mir.Syntax.{w8, w64}
 use mir.Val.{Fits}
+use lib.Dec.{eqb}
 use lib.ListN.{length, getD, take, drop, length-take, length-drop}
 use lib.Seq.{length-take-le}
 use Rattle.number.specs.Number.{four, fourAt, wordAt}
@@ -18,23 +20,31 @@ use Rattle.payload.specs.Content.{Bytes}
 use Rattle.item.specs.Front.{packs, frontKey, frontIn}
 use Rattle.item.proofs.Fronts.{front-here}
 use Rattle.message.specs.Record.{goodRecord}
-use Rattle.heard.specs.Place.{typeAt, sizeAt, keyAt, Payload}
+use Rattle.heard.specs.Place.{typeAt, sizeAt, keyAt, Sized, v4, v6, key, Payload}
 use Rattle.heard.proofs.Keys.{byteAt, word-from, four-from, fourKey, four-key, sixKey, six-key, router-key}
-use Rattle.heard.proofs.Places.{four-small, low-half, least, long, third, size-least}
+use Rattle.heard.proofs.Places.{four-small, low-half, high-half, least, long, third, size-least}
+
+module _ (k w : ℕ) where
+  pub address-four : k ≡ 4 → w / 4_294_967_296 * 65_536 ≡ cond (eqb k 4) (w / 4_294_967_296 * 65_536) (w / 65_536)
+  address-four e = rw e
+
+  pub address-six : (k ≡ 4 → ⊥) → w / 65_536 ≡ cond (eqb k 4) (w / 4_294_967_296 * 65_536) (w / 65_536)
+  address-six n = rw (ne-eqb k 4 n)
+
+pub ruleset addresses = (address-four, address-six)
 
 module _ (s : Bytes) (at : ℕ) (p : Payload s at) where
   pub second-word : at + 8 + 8 ≤ length s
   second-word = omega (arith, least s at p)
 
-  pub third-word : (k : ℕ) → k ≡ typeAt s at → k ≡ 6 → at + 12 + 8 ≤ length s
-  third-word k d e = omega (arith, least s at p)
+  pub third-word : at + 12 + 8 ≤ length s
+  third-word = omega (arith, least s at p)
 
   module _ (o : Octets s) where
-    pub front-four : typeAt s at ≡ 4 → (w : ℕ) → w ≡ wordAt s (at + 8) → 0x0104000000000000 + w % 4_294_967_296 * 65_536 ≡ frontKey (keyAt s at)
+    pub front-four : typeAt s at ≡ 4 → (w : ℕ) → w ≡ wordAt s (at + 12) → 0x0104000000000000 + w / 4_294_967_296 * 65_536 ≡ frontKey (keyAt s at)
     unfolding packs
     front-four t w e =
-        let z : at + 8 + 4 ≡ at + 12 = omega arith in
-        let f : w % 4_294_967_296 ≡ four (byteAt s at 12) (byteAt s at 13) (byteAt s at 14) (byteAt s at 15) = rw e (low-half s o (at + 8) ∙ rw z (four-from s at 12)) in
+        let f : w / 4_294_967_296 ≡ four (byteAt s at 12) (byteAt s at 13) (byteAt s at 14) (byteAt s at 15) = rw e (high-half s o (at + 12) ∙ four-from s at 12) in
         rw (f, four-key s at t (least s at p)) (omega arith)
 
     pub front-six : typeAt s at ≡ 6 → (w : ℕ) → w ≡ wordAt s (at + 12) → 0x0106000000000000 + w / 65_536 ≡ frontKey (keyAt s at)
@@ -62,13 +72,16 @@ module _ (s : Bytes) (at : ℕ) (p : Payload s at) where
 
     -- by the type that was read
     module _ (k : ℕ) (d : k ≡ typeAt s at) (w : ℕ) where
-      pub read-four : k ≡ 4 → w ≡ wordAt s (at + 8) → 0x0104000000000000 + w % 4_294_967_296 * 65_536 ≡ frontKey (keyAt s at)
-      read-four t e = front-four (sym d ∙ t) w e
+      pub read-key : k ≡ 9 → w ≡ wordAt s (at + 8) → 0x0200000000000000 + w / 256 ≡ frontKey (keyAt s at)
+      read-key t e = front-key (sym d ∙ t) w e
 
-      pub read-six : k ≡ 6 → w ≡ wordAt s (at + 12) → 0x0106000000000000 + w / 65_536 ≡ frontKey (keyAt s at)
-      read-six t e = front-six (sym d ∙ t) w e
+      pub read-prefix : (k ≡ 9 → ⊥) → w ≡ wordAt s (at + 12) → (n r : ℕ) → n ≡ k → r ≡ cond (eqb k 4) (w / 4_294_967_296 * 65_536) (w / 65_536)
+          → 0x0100000000000000 + n * 0x1000000000000 + r ≡ frontKey (keyAt s at)
+      read-prefix t e n r f g = go (p .sized)
+        where
+          go : Sized s at → 0x0100000000000000 + n * 0x1000000000000 + r ≡ frontKey (keyAt s at)
+          go (v4 u m) = rw (f, g, d, u) (front-four u w e)
+          go (v6 u m) = rw (f, g, d, u) (front-six u w e)
+          go (key u m l) = absurd (t (d ∙ u))
 
-      pub read-key : (k ≡ 4 → ⊥) → (k ≡ 6 → ⊥) → w ≡ wordAt s (at + 8) → 0x0200000000000000 + w / 256 ≡ frontKey (keyAt s at)
-      read-key t u e = front-key (third s at p (λ h. t (d ∙ h)) (λ h. u (d ∙ h))) w e
-
-pub ruleset fronts = (second-word, third-word, read-four, read-six, read-key)
+pub ruleset fronts = (second-word, third-word, read-key, read-prefix)

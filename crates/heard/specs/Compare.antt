@@ -10,6 +10,11 @@ pub record Of (s : Bytes) (kind at : ℕ) : Type 0 where
   pub payload : Payload s at
   pub type : typeAt s at ≡ kind
 
+-- a good payload message stands at `at`, and f is the front of its record
+pub record FrontOf (s : Bytes) (f at : ℕ) : Type 0 where
+  pub payload : Payload s at
+  pub is : f ≡ frontKey (keyAt s at)
+
 -- the records at x and at y have the same front
 pub record Fronted (s : Bytes) (x y : ℕ) : Type 0 where
   pub one : Payload s x

@@ -16,7 +16,7 @@ use Rattle.payload.specs.Count.{announces, withdraws, sumOf}
 use Rattle.message.specs.Hear.{Told}
 use Rattle.message.specs.Take.{Taken, all, misfit, asItem, take}
 use Rattle.heard.specs.Place.{sizeAt, announcesAt, toldAt, Payload, Messages, done, more}
-use Rattle.batch.specs.Next.{sorted}
+use Rattle.sorting.specs.Sorted.{sorted}
 use Rattle.judge.specs.Walk.{leastFault, settled}
 use Rattle.judge.proofs.Sorting.{some-size, messages-stop}
 use Rattle.judge.proofs.Faults.{faultIn, least-fault}

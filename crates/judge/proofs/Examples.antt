@@ -12,7 +12,7 @@ use Rattle.payload.specs.Content.{Bytes}
 use Rattle.message.specs.declared.version.Version.the-variants.{Rfc8210}
 use Rattle.message.specs.Take.{all, misfit, take}
 use Rattle.heard.specs.Place.{keyAt, toldAt, precedes}
-use Rattle.batch.specs.Next.{insert, sorted}
+use Rattle.sorting.specs.Sorted.{insert, sorted}
 use Rattle.judge.specs.Walk.{follows, leastFault, settle, settled}
 use Rattle.judge.specs.Promise.{lastWord, unspoken}
 

@@ -15,7 +15,7 @@ use Rattle.payload.specs.Valid.{IsMap}
 use Rattle.message.specs.Take.{Taken, all, misfit, take}
 use Rattle.message.proofs.Taking.{take-none}
 use Rattle.heard.specs.Place.{keyAt, announcesAt, toldAt, Messages, done, more}
-use Rattle.batch.specs.Next.{insert, sorted}
+use Rattle.sorting.specs.Sorted.{insert, sorted}
 use Rattle.judge.specs.Walk.{has, follows, stands, isFault, lesser, leastFault}
 use Rattle.judge.proofs.Sorting.{between, less-apart, turned, Side, side, front, behind, Past, past-all, Ascends, InOrder, ascends-order, insert-end, insert-front, insert-behind, some-size, messages-stop, first-past, sorted-end, sorted-more, sorted-order, Under, nothing, below, follows-same, follows-apart, under-apart}
 use Rattle.judge.proofs.Records.{wrong, after, after-map, after-same, has-other, take-right, take-wrong}

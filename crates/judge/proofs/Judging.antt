@@ -41,7 +41,7 @@ use Rattle.message.specs.Hear as message
 use Rattle.message.specs.Take.{Taken, all, misfit, asItem}
 use Rattle.message.specs.Take as fold
 use Rattle.heard.specs.Place.{keyAt, announcesAt, toldAt, Payload, Messages, done, more}
-use Rattle.batch.specs.Next.{sorted}
+use Rattle.sorting.specs.Sorted.{sorted}
 use Rattle.batch.specs.Map.{Surveys, Mapped}
 use Rattle.batch.specs.Map as map
 use Rattle.heard.specs.declared.hear.Stop.{Stop}
@@ -310,10 +310,10 @@ module _ (v : Version) (a m : Bytes) (y : admitOneOf Snapshot a ≡ Yes) (h : He
 
 -- what `judge` hands on: an array of zeros marks nothing and hints at nothing
 module _ (v : Version) (a m : Bytes) (h : Heard) (k : HeardIs v m h) where
-  pub judge-surveys : Surveys m (h .over) (replicate 512 0) (replicate 962 0) (replicate 6000 0)
+  pub judge-surveys : Surveys m (h .over) (replicate 560 0) (replicate 962 0) (replicate 6000 0)
   judge-surveys = record {
     stretch = record { xs = k .xs; messages = k .messages };
-    marked = record { long = length-replicate {A = ℕ} 512 0; each = λ c n z. absurd (z (getD-replicate {A = ℕ} 512 (4 * c) 0 0 (omega arith))) };
+    marked = record { long = length-replicate {A = ℕ} 560 0; each = λ c n z. absurd (z (getD-replicate {A = ℕ} 560 (5 * c) 0 0 (omega arith))) };
     hinted = record { long = length-replicate {A = ℕ} 962 0; each = λ n z. map.none (getD-replicate {A = ℕ} 962 n 0 0 (omega arith)) };
     len = length-replicate {A = ℕ} 6000 0;
   }

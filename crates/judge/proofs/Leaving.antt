@@ -10,8 +10,9 @@ use lib.ListN.{length, take, drop, take-append-drop, length-drop}
 use Rattle.order.specs.Map.{All}
 use Rattle.payload.specs.Content.{Bytes}
 use Rattle.heard.specs.Place.{sizeAt, precedes, Payload, Messages, done, more}
-use Rattle.batch.specs.Next.{insert, sorted, isAbove, above, left}
-use Rattle.batch.proofs.Precede.{true≢false, never-self, same-place, precede-trans, precede-turn}
+use Rattle.sorting.specs.Sorted.{insert, sorted}
+use Rattle.batch.specs.Next.{isAbove, above, left}
+use Rattle.sorting.proofs.Precede.{true≢false, never-self, same-place, precede-trans, precede-turn}
 use Rattle.judge.specs.State.{offsetsF, offsets, Next, Chain, end, on, lastOf}
 use Rattle.judge.proofs.Sorting.{insert-all, sorted-all, sorted-end, sorted-more, some-size, messages-past, messages-stop, first-past}
 

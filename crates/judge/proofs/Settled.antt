@@ -22,7 +22,7 @@ use Rattle.message.specs.Hear.{Told}
 use Rattle.message.specs.Take.{all, misfit, asItem, take}
 use Rattle.message.proofs.Taking.{take-none, one-lookup, one-sorted}
 use Rattle.heard.specs.Place.{keyAt, sizeAt, toldAt, Payload, Messages, done, more}
-use Rattle.batch.specs.Next.{insert, sorted}
+use Rattle.sorting.specs.Sorted.{insert, sorted}
 use Rattle.judge.specs.Walk.{follows, settle, settled}
 use Rattle.judge.specs.Promise.{later}
 use Rattle.judge.proofs.Sorting.{most-apart, turned, Side, side, front, behind, Past, past-all, Ascends, InOrder, insert-end, insert-front, insert-behind, messages-past, sorted-all, first-past, sorted-end, sorted-more, sorted-order, below, follows-same, follows-apart, under-apart}

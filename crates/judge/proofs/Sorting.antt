@@ -14,7 +14,7 @@ use Rattle.order.proofs.Comparison.{strings, AtMost, less≢equal, less≢great
 use Rattle.change.specs.Application.{isEqual}
 use Rattle.payload.specs.Content.{Bytes}
 use Rattle.heard.specs.Place.{keyAt, sizeAt, Sized, Payload, Messages, precedes, v4, v6, key, done, more}
-use Rattle.batch.specs.Next.{insert, sorted}
+use Rattle.sorting.specs.Sorted.{insert, sorted}
 use Rattle.judge.specs.Walk.{follows}
 
 true≢false : {X : Type 0} {b : Bool} → b ≡ true → b ≡ false → X

@@ -25,7 +25,8 @@ use Rattle.heard.specs.declared.hear.Heard.{Heard}
 use Rattle.heard.specs.Heard.{HeardIs}
 use Rattle.heard.specs.Field.{recordField}
 use Rattle.heard.specs.Place.{sizeAt, keyAt, announcesAt, Payload, Messages}
-use Rattle.batch.specs.Next.{isAbove, sorted, left}
+use Rattle.sorting.specs.Sorted.{sorted}
+use Rattle.batch.specs.Next.{isAbove, left}
 use Rattle.batch.specs.Map.{Marked, Hinted, Mapped}
 use Rattle.judge.specs.declared.find.Found.{Found}
 use Rattle.judge.specs.declared.check.Check.{Check}

@@ -76,7 +76,7 @@ fn put_all(
     stop: usize,
     more: usize,
     less: usize,
-    marks: &[usize; 512],
+    marks: &[usize; 560],
     hints: &[usize; 962],
     buf: &mut [usize; 6000],
     out: &mut [u8],
@@ -97,7 +97,7 @@ fn judge_heard(
     snapshot: &[u8],
     messages: &[u8],
     heard: Heard,
-    marks: &[usize; 512],
+    marks: &[usize; 560],
     hints: &[usize; 962],
     buf: &mut [usize; 6000],
     out: &mut [u8],
@@ -149,7 +149,7 @@ pub fn judge(version: Version, snapshot: &[u8], messages: &[u8], out: &mut [u8])
         return Judged::Refused(r);
     }
     let heard = hear(version, messages);
-    let mut marks = [0usize; 512];
+    let mut marks = [0usize; 560];
     let mut hints = [0usize; 962];
     let mut buf = [0usize; 6000];
     survey(

@@ -13,7 +13,7 @@ pub(crate) fn least_fault(
     snapshot: &[u8],
     s: &[u8],
     stop: usize,
-    marks: &[usize; 512],
+    marks: &[usize; 560],
     hints: &[usize; 962],
     buf: &mut [usize; 6000],
 ) -> usize

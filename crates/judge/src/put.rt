@@ -33,7 +33,7 @@ pub(crate) fn put(
     snapshot: &[u8],
     s: &[u8],
     stop: usize,
-    marks: &[usize; 512],
+    marks: &[usize; 560],
     hints: &[usize; 962],
     buf: &mut [usize; 6000],
     out: &mut [u8],

@@ -29,8 +29,8 @@ element-copy-out-x c = search (aiming, needs)
 returns : tie.Need-returns Inv-loop μ-loop
 returns c = search (aiming, needs)
 
-is-above-requires : tie.Need-is-above-requires Inv-loop μ-loop
-is-above-requires c κs = search (aiming, needs)
+is-behind-requires : tie.Need-is-behind-requires Inv-loop μ-loop
+is-behind-requires c κs = search (aiming, needs)
 
 loop-less : tie.Need-loop-less Inv-loop μ-loop
 loop-less c = search (aiming, needs)
@@ -62,7 +62,7 @@ aim-spec =
     mul-x
     element-copy-out-x
     returns
-    is-above-requires
+    is-behind-requires
     loop-less
     loop-again
     add-a

@@ -6,16 +6,28 @@ use Rattle.batch.proofs.collect.collect.Statement.{statement}
 use Rattle.batch.proofs.collect.collect.Tie as tie
 
 abbrev Inv-loop : tie.InvT-loop
-Inv-loop s stop low first marks buf₀ p₀ at₀ c₀ buf p at c = Collecting s stop low marks buf p at
+Inv-loop s stop low first marks buf₀ p₀ at₀ c₀ buf p at c = Collecting s stop low marks buf p at c
 
 abbrev μ-loop : tie.MeasureT-loop
-μ-loop s stop low first marks buf₀ p₀ at₀ c₀ buf p at c = stop - at
+μ-loop s stop low first marks buf₀ p₀ at₀ c₀ buf p at c = 112 - c
+
+part-of-requires : tie.Need-part-of-requires Inv-loop μ-loop
+part-of-requires c κs = search (collecting, needs)
 
 loop-holds : tie.Need-loop-holds Inv-loop μ-loop
 loop-holds c = search (collecting, needs)
 
-pass-requires : tie.Need-pass-requires Inv-loop μ-loop
-pass-requires c κs = search (collecting, needs)
+is-chunk-requires : tie.Need-is-chunk-requires Inv-loop μ-loop
+is-chunk-requires c κs = search (collecting, needs)
+
+walk-chunk-requires : tie.Need-walk-chunk-requires Inv-loop μ-loop
+walk-chunk-requires c κs = search (collecting, needs)
+
+chunk-end-requires : tie.Need-chunk-end-requires Inv-loop μ-loop
+chunk-end-requires c κs = search (collecting, needs)
+
+add-c : tie.Need-add-c Inv-loop μ-loop
+add-c c = search (collecting, needs)
 
 loop-less : tie.Need-loop-less Inv-loop μ-loop
 loop-less c = search (collecting, needs)
@@ -23,20 +35,8 @@ loop-less c = search (collecting, needs)
 loop-again : tie.Need-loop-again Inv-loop μ-loop
 loop-again c = search (collecting, needs)
 
-take-in-requires : tie.Need-take-in-requires Inv-loop μ-loop
-take-in-requires c κs = search (collecting, needs)
-
-size-at-requires : tie.Need-size-at-requires Inv-loop μ-loop
-size-at-requires c κs = search (collecting, needs)
-
-add-at : tie.Need-add-at Inv-loop μ-loop
-add-at c = search (collecting, needs)
-
-loop-less-2 : tie.Need-loop-less-2 Inv-loop μ-loop
-loop-less-2 c = search (collecting, needs)
-
-loop-again-2 : tie.Need-loop-again-2 Inv-loop μ-loop
-loop-again-2 c = search (collecting, needs)
+walk-requires : tie.Need-walk-requires Inv-loop μ-loop
+walk-requires c κs = search (collecting, needs)
 
 returns : tie.Need-returns Inv-loop μ-loop
 returns c = search (collecting, needs)
@@ -47,13 +47,13 @@ collect-spec =
     (tie.spec
     Inv-loop
     μ-loop
+    part-of-requires
     loop-holds
-    pass-requires
+    is-chunk-requires
+    walk-chunk-requires
+    chunk-end-requires
+    add-c
     loop-less
     loop-again
-    take-in-requires
-    size-at-requires
-    add-at
-    loop-less-2
-    loop-again-2
+    walk-requires
     returns)

@@ -6,11 +6,11 @@ use Rattle.batch.proofs.collect.is_up_to.Tie as tie
 returns : tie.Need-returns
 returns c = search (tests, needs)
 
-is-before-requires : tie.Need-is-before-requires
-is-before-requires c κs = search (tests, needs)
+is-before-by-requires : tie.Need-is-before-by-requires
+is-before-by-requires c κs = search (tests, needs)
 
 returns-2 : tie.Need-returns-2
 returns-2 c = search (tests, needs)
 
 pub is-up-to-spec : {M : Type 1} → statement M
-is-up-to-spec = tie.close (tie.spec returns is-before-requires returns-2)
+is-up-to-spec = tie.close (tie.spec returns is-before-by-requires returns-2)

@@ -6,8 +6,23 @@ use Rattle.batch.proofs.survey.chart.Tie as tie
 fill-requires : tie.Need-fill-requires
 fill-requires c κs = search (charting, needs)
 
+mul-mid : tie.Need-mul-mid
+mul-mid c = search (charting, needs)
+
+element-copy-out-mid : tie.Need-element-copy-out-mid
+element-copy-out-mid c = search (charting, needs)
+
 sort-first-requires : tie.Need-sort-first-requires
 sort-first-requires c κs = search (charting, needs)
+
+mul-cut-at : tie.Need-mul-cut-at
+mul-cut-at c = search (charting, needs)
+
+element-copy-out-cut-at : tie.Need-element-copy-out-cut-at
+element-copy-out-cut-at c = search (charting, needs)
+
+cut-at-requires : tie.Need-cut-at-requires
+cut-at-requires c κs = search (charting, needs)
 
 element-copy-out-note : tie.Need-element-copy-out-note
 element-copy-out-note c = search (charting, needs)
@@ -32,7 +47,12 @@ chart-spec =
     tie.close
     (tie.spec
     fill-requires
+    mul-mid
+    element-copy-out-mid
     sort-first-requires
+    mul-cut-at
+    element-copy-out-cut-at
+    cut-at-requires
     element-copy-out-note
     sub-note
     mul-note

@@ -48,6 +48,18 @@ mul-marks-8 c = search (noting, needs)
 element-write-marks-4 : tie.Need-element-write-marks-4
 element-write-marks-4 c = search (noting, needs)
 
+mul-marks-9 : tie.Need-mul-marks-9
+mul-marks-9 c = search (noting, needs)
+
+add-marks-4 : tie.Need-add-marks-4
+add-marks-4 c = search (noting, needs)
+
+mul-marks-10 : tie.Need-mul-marks-10
+mul-marks-10 c = search (noting, needs)
+
+element-write-marks-5 : tie.Need-element-write-marks-5
+element-write-marks-5 c = search (noting, needs)
+
 returns : tie.Need-returns
 returns c = search (noting, needs)
 
@@ -70,4 +82,8 @@ note-spec =
     add-marks-3
     mul-marks-8
     element-write-marks-4
+    mul-marks-9
+    add-marks-4
+    mul-marks-10
+    element-write-marks-5
     returns)

@@ -1,37 +1,45 @@
 use borrow.Author.Needs.{needs}
-use Rattle.heard.proofs.Comparing.{comparing}
+use Rattle.heard.proofs.Comparing.{behinds}
 use Rattle.heard.proofs.compare.is_before_behind.Statement.{statement}
 use Rattle.heard.proofs.compare.is_before_behind.Tie as tie
 
-compare-behind-requires : tie.Need-compare-behind-requires
-compare-behind-requires c κs = search (comparing, needs)
+type-at-requires : tie.Need-type-at-requires
+type-at-requires c κs = search (behinds, needs)
 
-enum-told : tie.Need-enum-told
-enum-told c = search (comparing, needs)
+four-last-requires : tie.Need-four-last-requires
+four-last-requires c κs = search (behinds, needs)
 
-enum-told-2 : tie.Need-enum-told-2
-enum-told-2 c = search (comparing, needs)
+four-last-requires-2 : tie.Need-four-last-requires-2
+four-last-requires-2 c κs = search (behinds, needs)
 
-enum-told-3 : tie.Need-enum-told-3
-enum-told-3 c = search (comparing, needs)
+is-below-requires : tie.Need-is-below-requires
+is-below-requires c κs = search (behinds, needs)
 
 returns : tie.Need-returns
-returns c = search (comparing, needs)
+returns c = search (behinds, needs)
+
+is-before-six-requires : tie.Need-is-before-six-requires
+is-before-six-requires c κs = search (behinds, needs)
 
 returns-2 : tie.Need-returns-2
-returns-2 c = search (comparing, needs)
+returns-2 c = search (behinds, needs)
+
+is-before-key-requires : tie.Need-is-before-key-requires
+is-before-key-requires c κs = search (behinds, needs)
 
 returns-3 : tie.Need-returns-3
-returns-3 c = search (comparing, needs)
+returns-3 c = search (behinds, needs)
 
 pub is-before-behind-spec : {M : Type 1} → statement M
 is-before-behind-spec =
     tie.close
     (tie.spec
-    compare-behind-requires
-    enum-told
-    enum-told-2
-    enum-told-3
+    type-at-requires
+    four-last-requires
+    four-last-requires-2
+    is-below-requires
     returns
+    is-before-six-requires
     returns-2
+    is-before-key-requires
     returns-3)
