@@ -1,3 +1,4 @@
 pub mod Next
+-- what the contracts of inner functions say
 pub mod Keep
 pub mod Map

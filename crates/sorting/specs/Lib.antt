@@ -1,2 +1,3 @@
 pub mod Sorted
+-- what the contracts of functions say
 pub mod Sort
