@@ -77,7 +77,8 @@ fn note(
     marks[5 * c + 4] = most;
 }
 
-// Where a chunk is cut in two. One that ascends is not, so that its messages are met in order; its middle one stays where it is.
+// Where a chunk is cut in two. One whose middle message is the same when sorted most likely ascends: it is not cut, so that
+// its messages are met in order.
 fn cut_at(at: usize, mid: usize, sorted: usize) -> usize
     ensures { λ r. ⌜ CutAt at mid r ⌝ }
 {
