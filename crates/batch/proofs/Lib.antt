@@ -2,6 +2,5 @@ pub mod Sorting
 pub mod Keeping
 pub mod Collecting
 pub mod Bounding
-pub mod Leaving
 pub mod Surveying
 pub mod Examples

@@ -119,9 +119,6 @@ module _ (v : Version) (f : Frame) (d : D) where
   pub laid-room : (o o′ : Bytes) (t : Tally) → LaidIs v d o o′ t → Countable t
   laid-room o o′ t l = l .room
 
-  pub answer-tally : (o o′ : Bytes) (r : Tally) → AnswerIs v f d o o′ r → TallyIs v f d r
-  answer-tally o o′ r a = a .tally
-
   -- ---- all or nothing
 
   module _ (o : Bytes) where
@@ -154,4 +151,4 @@ module _ (v : Version) (f : Frame) (d : D) where
         pub fits-out : (o′ : Bytes) (r : Tally) → AnswerIs v f d o o′ r → o′ ≡ answerOut v f d o
         fits-out o′ r a = written o′ r a (omega (arith, len-is))
 
-pub ruleset wholes = (answer-is, laid-room, answer-tally, sure-whole, sure-out, long-whole, long-out, fits-whole, fits-out)
+pub ruleset wholes = (answer-is, laid-room, sure-whole, sure-out, long-whole, long-out, fits-whole, fits-out)
