@@ -45,7 +45,8 @@ use Rattle.listing.specs.declared.report.Report.the-variants as report
 use Rattle.listing.specs.declared.diff.File.{File}
 use Rattle.listing.specs.declared.diff.File.the-variants.{Absent, TooLong, Read}
 use Rattle.listing.specs.Listing.{listingOf}
-use Rattle.listing.specs.Report.{writtenOf, listedOf, lenOf, Told}
+use Rattle.listing.specs.Report.{writtenOf, listedOf}
+use Rattle.listing.specs.Told.{lenOf, Told}
 use Rattle.listing.specs.Answer.{listOf, listOut, reportAt, reportOf, textOf, deltaAfter, diffOf, diffOut}
 
 -- each element is a byte, as a lent slice has it
