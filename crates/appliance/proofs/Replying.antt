@@ -8,6 +8,7 @@ use lib.ListN.{length, replicate}
 use borrow.Author.Tests.{not-true, not-false, le-leb, lt-leb}
 use Rattle.serial.specs.declared.Serial.{Serial}
 use Rattle.serial.specs.declared.Session.{Session}
+use Rattle.serial.specs.Serial.{zeroSerial, zeroSession}
 use Rattle.number.specs.Number.{twoAt, fourAt}
 use Rattle.payload.specs.Content.{Bytes}
 use Rattle.delta.specs.declared.refusal.Refusal.{Refusal}
@@ -31,7 +32,7 @@ pub turn-refused : (r : Refusal) (k : Known) (used : ℕ) (a : Reply) → a ≡ 
 turn-refused r k used a e = λ i. record { known = k; reply = e i; used = used }
 
 pub call-refused : (r : Refusal) (a : Reply) → a ≡ noReply →
-    record { admitted = No r; session = record { 0 = 0 }; serial = record { 0 = 0 }; used = 0; count = 0; replies = replicate 384 a } ≡ refusedCall r
+    record { admitted = No r; session = zeroSession; serial = zeroSerial; used = 0; count = 0; replies = replicate 384 a } ≡ refusedCall r
 call-refused r a e = rw e
 
 pub ruleset replying = (refused-is, turn-refused, call-refused)

@@ -6,7 +6,7 @@ use lib.Dec.{leb, eqb}
 use lib.ListN.{length, take, drop, replicate}
 use Rattle.serial.specs.declared.Serial.{Serial}
 use Rattle.serial.specs.declared.Session.{Session}
-use Rattle.serial.specs.Serial.{sessionOf}
+use Rattle.serial.specs.Serial.{zeroSerial, zeroSession, sessionOf}
 use Rattle.number.specs.Number.{twoAt, fourAt}
 use Rattle.payload.specs.Content.{Bytes}
 use Rattle.item.specs.declared.sink.Counts.{Counts}
@@ -114,7 +114,7 @@ padded rs = rs ++ replicate (384 - length rs) noReply
 
 -- a refused call: all else 0
 abbrev pub refusedCall : Refusal → Replied
-refusedCall r = record { admitted = No r; session = record { 0 = 0 }; serial = record { 0 = 0 }; used = 0; count = 0; replies = padded [] }
+refusedCall r = record { admitted = No r; session = zeroSession; serial = zeroSerial; used = 0; count = 0; replies = padded [] }
 
 -- the 16-bit session and F, how much of the output is used, and the replies
 abbrev pub repliedBy : Admitted → History → Laid → Replied

@@ -14,7 +14,8 @@ use Rattle.order.specs.declared.Ordering.the-variants.{Less, Equal, Greater}
 use Rattle.order.specs.Comparison.{number, isLess}
 use Rattle.serial.specs.declared.Asn.{Asn}
 use Rattle.number.specs.Number.{fourAt, asnAt}
-use Rattle.body.specs.Aspa.{asns, ascendingFrom, ascending, isIn, sensibleAsns, soundAsns}
+use Rattle.body.specs.Aspa.{asns, ascendingFrom, ascending, isIn, sensibleAsns}
+use Rattle.body.specs.Sound.{soundAsns}
 use Rattle.body.specs.Leaves.{Leaves}
 
 short : (l : List ℕ) → length l < 4 → asns l ≡ []

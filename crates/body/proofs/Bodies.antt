@@ -11,7 +11,8 @@ use lib.Seq.{take-all}
 use Rattle.serial.specs.declared.Asn.{Asn}
 use Rattle.number.specs.Number.{twoAt, fourAt, asnAt}
 use Rattle.body.specs.RouterKey.{goodRouterKey}
-use Rattle.body.specs.Aspa.{asns, ascending, goodProviders, goodAspa, goodUpdate, sensibleAsns, soundAsns, sensibleProviders, sensibleAspa, sensibleUpdate}
+use Rattle.body.specs.Aspa.{asns, ascending, goodProviders, goodAspa, goodUpdate, sensibleAsns, sensibleProviders, sensibleAspa, sensibleUpdate}
+use Rattle.body.specs.Sound.{soundAsns}
 use Rattle.body.specs.Leaves.{Leaves}
 use Rattle.body.proofs.Ascent.{senseless-none}
 use Rattle.body.proofs.Sizes.{both}

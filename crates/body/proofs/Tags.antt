@@ -13,7 +13,8 @@ use Rattle.body.specs.declared.tag.Tag.the-variants.{Unknown, Origin, Ro
 use Rattle.body.specs.Origin.{goodOrigin}
 use Rattle.body.specs.RouterKey.{goodRouterKey}
 use Rattle.body.specs.Aspa.{goodAspa, goodUpdate, sensibleAspa, sensibleUpdate}
-use Rattle.body.specs.Tag.{itemTag, changeTag, tagOf, kindOf, goodAspaBody, goodBody, sensibleAspaBody, sensible, sound}
+use Rattle.body.specs.Tag.{itemTag, changeTag, tagOf, kindOf, goodAspaBody, goodBody, sensibleAspaBody, sensible}
+use Rattle.body.specs.Sound.{sound}
 
 module _ (tag k : ℕ) (t : Tag) where
   pub item-known : tag ≡ k → t ≡ itemTag k → t ≡ itemTag tag

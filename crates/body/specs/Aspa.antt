@@ -61,10 +61,6 @@ unfoldable pub sensibleAsns : ℕ → List ℕ → Bool
 sensibleAsns customer [] = false
 sensibleAsns customer (x ∷ xs) = not (isIn customer (x ∷ xs))
 
--- strictly ascending too
-unfoldable pub soundAsns : ℕ → List ℕ → Bool
-soundAsns customer l = ascending l && sensibleAsns customer l
-
 -- the providers, by their bytes, make sense for the customer, by its four bytes
 unfoldable pub sensibleProviders : List ℕ → List ℕ → Bool
 sensibleProviders customer l = sensibleAsns (fourAt customer 0) (asns l)

@@ -6,3 +6,4 @@ pub mod Tag
 -- what the code asks on the way
 pub mod Halves
 pub mod Leaves
+pub mod Sound

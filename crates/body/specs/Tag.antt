@@ -1,7 +1,7 @@
 -- Tags: the kind of a field's item, what a delta does with it, and the rules of its body.
 use Prim.Native.Nat.{ℕ}
 use mathlib.Core.List.{List}
-use mathlib.Core.Bool.{Bool, true, false, cond, _&&_}
+use mathlib.Core.Bool.{Bool, true, false, cond}
 use lib.Dec.{eqb}
 use Rattle.body.specs.declared.tag.Form.{Form}
 use Rattle.body.specs.declared.tag.Form.the-variants.{Snapshot, Delta}
@@ -82,7 +82,3 @@ sensibleTagged (Aspa action) b = sensibleAspaBody action b
 -- whether a body makes sense, by its tag
 unfoldable pub sensible : Form → ℕ → List ℕ → Bool
 sensible form tag b = sensibleTagged (tagOf form tag) b
-
--- a body that gets neither refusal 1 nor 12
-unfoldable pub sound : Form → ℕ → List ℕ → Bool
-sound form tag b = goodBody form tag b && sensible form tag b

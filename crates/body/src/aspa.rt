@@ -9,7 +9,8 @@ ghost use mathlib.Core.Bool.{_&&_};
 ghost use Prim.Native.Nat.{_/_, _%_, _≤_};
 ghost use lib.Dec.{leb, eqb};
 ghost use lib.ListN.{length};
-ghost use Rattle.body.specs.Aspa.{asns, ascending, goodProviders, goodAspa, goodUpdate, sensibleAsns, soundAsns, sensibleAspa, sensibleUpdate};
+ghost use Rattle.body.specs.Aspa.{asns, ascending, goodProviders, goodAspa, goodUpdate, sensibleAsns, sensibleAspa, sensibleUpdate};
+ghost use Rattle.body.specs.Sound.{soundAsns};
 ghost use Rattle.body.specs.Leaves.{Leaves};
 
 // Whether each AS number is above the one before it.

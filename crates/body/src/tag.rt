@@ -7,7 +7,8 @@ use crate::origin::origin_ok;
 use crate::router_key::router_key_ok;
 ghost use mathlib.Core.Path.{_≡_};
 ghost use mathlib.Core.Bool.{_&&_};
-ghost use Rattle.body.specs.Tag.{itemTag, changeTag, tagOf, kindOf, goodAspaBody, sensibleAspaBody, sound};
+ghost use Rattle.body.specs.Tag.{itemTag, changeTag, tagOf, kindOf, goodAspaBody, sensibleAspaBody};
+ghost use Rattle.body.specs.Sound.{sound};
 
 // The runs of fields that there are.
 pub enum Form {

@@ -11,7 +11,8 @@ use Rattle.order.proofs.Many.{fold-lookup}
 use Rattle.change.specs.Difference.{Snapshot, Delta, diff}
 use Rattle.change.specs.Merge.{mergeAt, merge, mergeAll}
 use Rattle.change.specs.Application.{apply, Applies}
-use Rattle.change.specs.History.{newest, nth, diffs}
+use Rattle.change.specs.History.{newest}
+use Rattle.change.specs.Held.{nth, diffs}
 use Rattle.change.proofs.Whole.{diff-sorted, diff-nil, compose, yields, applies}
 
 -- a property of all snapshots of a chain is one of its newest, of its i-th, and of all behind that

@@ -8,7 +8,8 @@ use Rattle.order.specs.Comparison.{TotalOrder}
 use Rattle.order.specs.Map.{All, Sorted}
 use Rattle.change.specs.Difference.{Snapshot, Delta, diff}
 use Rattle.change.specs.Merge.{merge}
-use Rattle.change.specs.History.{newest, diffs}
+use Rattle.change.specs.History.{newest}
+use Rattle.change.specs.Held.{diffs}
 use Rattle.change.specs.Grouping.{Grouping, alone, grouped, leaves, mergeTree, steps}
 use Rattle.change.proofs.Whole.{compose}
 use Rattle.change.proofs.Chain.{all-newest}

@@ -11,7 +11,8 @@ use Rattle.order.specs.Map.{All, Sorted}
 use Rattle.change.specs.Difference.{Snapshot, Delta, diff}
 use Rattle.change.specs.Merge.{mergeAll}
 use Rattle.change.specs.Application.{apply}
-use Rattle.change.specs.History.{lastN, newest, nth, diffs, held}
+use Rattle.change.specs.History.{lastN, newest}
+use Rattle.change.specs.Held.{nth, diffs, held}
 use Rattle.change.proofs.Whole.{yields}
 use Rattle.change.proofs.Chain.{chain, all-newest, all-nth, all-drop}
 

@@ -14,7 +14,8 @@ use Rattle.order.proofs.Map.{none≢some, absent, absent-at}
 use Rattle.change.specs.Change.{Change, announce, withdraw, update, unlessEqual}
 use Rattle.change.specs.Difference.{Snapshot, Delta, diffAt, diff}
 use Rattle.change.specs.Application.{isEqual, applyAt, fitsAt}
-use Rattle.change.specs.Short.{Part, end, kept, left-out, LeadsTo, Short}
+use Rattle.change.specs.Part.{Part, end, kept, left-out}
+use Rattle.change.specs.Short.{LeadsTo, Short}
 use Rattle.change.proofs.Tables.{diff-self}
 use Rattle.change.proofs.Whole.{diff-sorted, diff-lookup, apply-lookup}
 

@@ -1,9 +1,7 @@
--- What a history holds of the snapshots that it was given: first S, then those of Ts.
+-- The last of a list, and the newest of a chain of snapshots: first S, then those of Ts.
 use mathlib.Core.List.{List, [], _∷_}
-use Prim.Native.Nat.{ℕ, zero, suc, _-_}
+use Prim.Native.Nat.{ℕ, _-_}
 use lib.ListN.{length, drop}
-use Rattle.order.specs.declared.Ordering.{Ordering}
-use Rattle.change.specs.Difference.{Snapshot, Delta, diff}
 
 -- the last n of a list, or all of it
 abbrev pub lastN : {A : Type 0} → ℕ → List A → List A
@@ -13,19 +11,3 @@ lastN n l = drop (length l - n) l
 abbrev pub newest : {S : Type 0} → S → List S → S
 newest S [] = S
 newest S (T ∷ Ts) = newest T Ts
-
--- the i-th snapshot, counted from 0 (the newest, where there are fewer)
-abbrev pub nth : {S : Type 0} → ℕ → S → List S → S
-nth zero S Ts = S
-nth (suc i) S [] = S
-nth (suc i) S (T ∷ Ts) = nth i T Ts
-
-module _ {K W : Type 0} (cmp : K → K → Ordering) (val : W → W → Ordering) where
-  -- the differences from each snapshot to the next
-  abbrev pub diffs : Snapshot K W → List (Snapshot K W) → List (Delta K W)
-  diffs S [] = []
-  diffs S (T ∷ Ts) = diff cmp val S T ∷ diffs T Ts
-
-  -- the deltas held, oldest first, with this many kept
-  abbrev pub held : ℕ → Snapshot K W → List (Snapshot K W) → List (Delta K W)
-  held keep S Ts = lastN keep (diffs S Ts)

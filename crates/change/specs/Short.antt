@@ -1,18 +1,12 @@
 -- How short a delta can be that leads from one snapshot to another.
 use Prim.Native.Nat.{_≤_}
 use mathlib.Core.Path.{_≡_}
-use mathlib.Core.List.{List, [], _∷_}
 use lib.ListN.{length}
 use Rattle.order.specs.declared.Ordering.{Ordering}
 use Rattle.order.specs.Map.{Sorted}
 use Rattle.change.specs.Difference.{Snapshot, Delta, diff}
 use Rattle.change.specs.Application.{apply, Applies}
-
--- the first list is the second with some members left out, in order
-pub data Part {A : Type 0} : List A → List A → Type 0 where
-  end : Part [] []
-  kept : (x : A) {a b : List A} → Part a b → Part (x ∷ a) (x ∷ b)
-  left-out : (y : A) {a b : List A} → Part a b → Part a (y ∷ b)
+use Rattle.change.specs.Part.{Part}
 
 module _ {K W : Type 0} (cmp : K → K → Ordering) (val : W → W → Ordering) where
   -- an ascending delta that can be applied to A and yields C

@@ -85,7 +85,7 @@ admitted-inputs f a g b e =
       fine-b = judged-yes 2 (verdict g b) (r .1);
     }
 
-limit-high : (form : Form) → limit form ≤ 33_554_432
+limit-high : (form : Form) → limit form ≤ limit Delta
 limit-high Snapshot = omega arith
 limit-high Delta = omega arith
 

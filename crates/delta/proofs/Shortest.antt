@@ -9,7 +9,7 @@ use lib.Seq.{take-append-seam}
 use Rattle.order.specs.Comparison.{bytes}
 use Rattle.order.proofs.Comparison.{strings}
 use Rattle.change.specs.Difference.{diff}
-use Rattle.change.specs.Short.{Part}
+use Rattle.change.specs.Part.{Part}
 use Rattle.change.proofs.Short.{total, part-total, part-length, part-whole, part-map}
 use Rattle.change.proofs.Short as short
 use Rattle.change.proofs.Whole.{compose}

@@ -7,7 +7,7 @@ use lib.Dec.{eqb}
 use lib.ListN.{length, take}
 use Rattle.order.specs.Map as order
 use Rattle.change.specs.History.{newest}
-use Rattle.change.specs.Short.{Part}
+use Rattle.change.specs.Part.{Part}
 use Rattle.change.specs.Grouping.{Grouping, leaves, mergeTree, steps}
 use Rattle.serial.specs.declared.Serial.{Serial}
 use Rattle.number.specs.Bytes.{AllBytes}

@@ -14,7 +14,7 @@ use Rattle.body.specs.declared.tag.Form.the-variants.{Snapshot}
 use Rattle.body.specs.Tag.{tagOf, goodBody}
 use Rattle.body.proofs.Sizes.{origin-size}
 use Rattle.field.specs.Head.{Front, end, cut, whole, front}
-use Rattle.field.specs.Run.{GoodAt}
+use Rattle.field.specs.Places.{GoodAt}
 use Rattle.field.proofs.Fronts.{opens, front-end}
 use Rattle.field.proofs.Run.{run-cut, run-whole}
 

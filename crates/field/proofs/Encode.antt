@@ -14,11 +14,12 @@ use Rattle.order.specs.declared.Ordering.the-variants.{Less}
 use Rattle.order.specs.Comparison.{bytes}
 use Rattle.number.specs.Bytes.{AllBytes}
 use Rattle.body.specs.declared.tag.Form.{Form}
-use Rattle.body.specs.Tag.{goodBody, sensible}
+use Rattle.body.specs.Tag.{goodBody, sensible, kindOf}
 use Rattle.field.specs.declared.verdict.Verdict.the-variants.{Fine}
 use Rattle.field.specs.Head.{whole, front}
+use Rattle.field.specs.Key.{keyOf}
 use Rattle.field.specs.Verdict.{verdict}
-use Rattle.field.specs.Cells.{Cell, cellKey, cells, field, cellBytes}
+use Rattle.field.specs.Cells.{Cell, cells, field, cellBytes}
 use Rattle.field.proofs.Fronts.{opens}
 use Rattle.field.specs.Run.{Run, done, more}
 use Rattle.field.proofs.Run.{cells-end, cells-more, fine-run, run-verdict}
@@ -39,6 +40,10 @@ cells-encode (c ∷ cs) =
     ∙ ap (λ (l : List Cell). c ∷ l) (cells-encode cs)
 
 -- ---- good cells, behind the key k
+
+-- the key of a cell
+abbrev cellKey : Form → Cell → List ℕ
+cellKey form c = keyOf (kindOf form (c .tag)) (c .body)
 
 pub data Ascent (form : Form) : List ℕ → List Cell → Type 0 where
   none : {k : List ℕ} → Ascent form k []

@@ -14,8 +14,7 @@ use Rattle.number.specs.Bytes.{part}
 use Rattle.field.specs.declared.head.Field.{Field}
 use Rattle.field.specs.declared.head.Field.the-variants.{End, Cut, Whole}
 use Rattle.field.specs.declared.words.Words.{Words}
-use Rattle.field.specs.Head.{Front, end, cut, whole, front}
-use Rattle.field.specs.Places.{place, fieldAt}
+use Rattle.field.specs.Head.{Front, end, cut, whole, front, place, fieldAt}
 use Rattle.field.specs.Words.{wordsAt}
 use Rattle.field.proofs.Fronts.{opens, shorter}
 

@@ -15,10 +15,11 @@ use Rattle.field.specs.declared.verdict.Verdict.the-variants.{Fine}
 use Rattle.field.specs.Key.{keyOf}
 use Rattle.field.specs.Verdict.{verdict}
 use Rattle.field.specs.Cells.{cells}
-use Rattle.field.specs.Places.{fieldAt}
+use Rattle.field.specs.Head.{fieldAt}
 use Rattle.field.proofs.Fields.{end-at, cut-at, whole-at, body-ordered, body-within, field-long, field-less}
 use Rattle.field.proofs.Keys.{key-fits}
-use Rattle.field.specs.Run.{Run, GoodAt}
+use Rattle.field.specs.Run.{Run}
+use Rattle.field.specs.Places.{GoodAt}
 use Rattle.field.proofs.Run.{fine-run, cells-at-end, cells-more, run-cut, run-whole}
 
 pub good-start : (form : Form) (s : List ℕ) → verdict form s ≡ Fine → GoodAt form s 0

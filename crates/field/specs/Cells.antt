@@ -2,19 +2,12 @@
 use Prim.Native.Nat.{ℕ, zero, suc, _/_, _%_}
 use mathlib.Core.List.{List, [], _∷_, _++_}
 use lib.ListN.{length}
-use Rattle.body.specs.declared.tag.Form.{Form}
-use Rattle.body.specs.Tag.{kindOf}
 use Rattle.field.specs.Head.{Front, end, cut, whole, front}
-use Rattle.field.specs.Key.{keyOf}
 
 -- a field: its tag and its body
 pub record Cell : Type 0 where
   pub tag : ℕ
   pub body : List ℕ
-
--- the key of a cell
-abbrev pub cellKey : Form → Cell → List ℕ
-cellKey form c = keyOf (kindOf form (c .tag)) (c .body)
 
 -- the field in front, and what `go` makes of the bytes behind it
 abbrev pub cellsAt : Front → (List ℕ → List Cell) → List Cell

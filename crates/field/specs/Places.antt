@@ -5,20 +5,9 @@ use mathlib.Core.Bool.{cond}
 use lib.Dec.{eqb}
 use lib.ListN.{length, drop}
 use Rattle.number.specs.Bytes.{part}
-use Rattle.field.specs.declared.head.Field.{Field}
-use Rattle.field.specs.declared.head.Field.the-variants.{End, Cut, Whole}
+use Rattle.body.specs.declared.tag.Form.{Form}
 use Rattle.field.specs.declared.key.Key.{Key}
-use Rattle.field.specs.Head.{Front, end, cut, whole, front}
-
--- where the field that stands at `at` has its body: behind its three-byte head
-abbrev pub place : ℕ → Front → Field
-place at end = End
-place at cut = Cut
-place at (whole tag b rest) = Whole tag (at + 3) (at + 3 + length b)
-
--- the field of s at `at`
-unfoldable pub fieldAt : List ℕ → ℕ → Field
-fieldAt s at = place at (front (drop at s))
+use Rattle.field.specs.Run.{Run}
 
 -- a key's bytes lie in s
 pub record KeyFits (s : List ℕ) (k : Key) : Type 0 where
@@ -32,3 +21,8 @@ keyIn s k = k .kind ∷ part s (k .from) (k .to)
 -- the place of the key of a body that lies from `from` up to `to`: of an ASPA (kind 3) its first four bytes
 abbrev pub keyPlace : ℕ → ℕ → ℕ → Key
 keyPlace kind from to = record { kind = kind; from = from; to = cond (eqb kind 3) (min (from + 4) to) to }
+
+-- the bytes of s from `at` on are a good run, behind some key
+pub record GoodAt (form : Form) (s : List ℕ) (at : ℕ) : Type 0 where
+  pub before : List ℕ
+  pub run : Run form before (drop at s)

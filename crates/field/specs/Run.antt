@@ -3,7 +3,6 @@ use Prim.Native.Nat.{ℕ}
 use mathlib.Core.Path.{_≡_}
 use mathlib.Core.List.{List, []}
 use mathlib.Core.Bool.{true}
-use lib.ListN.{drop}
 use Rattle.order.specs.declared.Ordering.the-variants.{Less}
 use Rattle.order.specs.Comparison.{bytes}
 use Rattle.body.specs.declared.tag.Form.{Form}
@@ -16,8 +15,3 @@ pub data Run (form : Form) : List ℕ → List ℕ → Type 0 where
   done : {k : List ℕ} → Run form k []
   more : {k s : List ℕ} (tag : ℕ) (b rest : List ℕ) → front s ≡ whole tag b rest → goodBody form tag b ≡ true
       → sensible form tag b ≡ true → bytes k (keyOf (kindOf form tag) b) ≡ Less → Run form (keyOf (kindOf form tag) b) rest → Run form k s
-
--- the bytes of s from `at` on are a good run, behind some key
-pub record GoodAt (form : Form) (s : List ℕ) (at : ℕ) : Type 0 where
-  pub before : List ℕ
-  pub run : Run form before (drop at s)

@@ -1,7 +1,7 @@
 // The head of a field: a one-byte tag, a two-byte length.
 use number::two_at;
 ghost use mathlib.Core.Path.{_≡_};
-ghost use Rattle.field.specs.Places.{fieldAt};
+ghost use Rattle.field.specs.Head.{fieldAt};
 
 // What stands at a place of a run of fields.
 pub enum Field {

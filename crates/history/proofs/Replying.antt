@@ -7,7 +7,7 @@ use lib.ListN.{length}
 use borrow.Author.Tests.{not-true, not-false}
 use Rattle.serial.specs.declared.Serial.{Serial}
 use Rattle.serial.specs.declared.Session.{Session}
-use Rattle.serial.specs.Serial.{sessionOf}
+use Rattle.serial.specs.Serial.{zeroSerial, zeroSession, sessionOf}
 use Rattle.body.specs.declared.tag.Form.the-variants.{Snapshot, Delta}
 use Rattle.payload.specs.Content.{Bytes}
 use Rattle.payload.specs.Limit.{limit}
@@ -42,7 +42,7 @@ module _ (keep : ℕ) (s d : Bytes) (t : Bool) (e : t ≡ goodKeep keep) where
 pub ruleset admitting = (create-keep, create-snapshots, create-deltas, create-admitted)
 
 module _ (session keep : ℕ) (start : Serial) (s d : Bytes) (x : Admitted) (e : x ≡ createAdmitted keep s d) where
-  pub create-refused : (r : Refusal) (h : History) → x ≡ No r → h ≡ freshOf 0 0 (record { 0 = 0 }) → record { answer = creation.Refused r; history = h } ≡ createOf session keep start s d
+  pub create-refused : (r : Refusal) (h : History) → x ≡ No r → h ≡ freshOf 0 0 zeroSerial → record { answer = creation.Refused r; history = h } ≡ createOf session keep start s d
   unfolding createOf
   create-refused r h q p = rw (← e, q, p)
 
@@ -55,7 +55,7 @@ pub ruleset creating = (create-refused, create-done)
 -- ---- the full answer
 
 module _ (h : History) (s d : Bytes) (t : Bool) (e : t ≡ wellFormed h s d) where
-  pub full-refused : not t ≡ true → record { session = record { 0 = 0 }; serial = record { 0 = 0 }; answer = fulls.Refused IllFormed } ≡ fullOf h s d
+  pub full-refused : not t ≡ true → record { session = zeroSession; serial = zeroSerial; answer = fulls.Refused IllFormed } ≡ fullOf h s d
   unfolding fullOf
   full-refused q = rw (← e, not-true t q)
 

@@ -9,6 +9,7 @@ use lib.ListN.{length, take, drop, replicate}
 use borrow.Author.Tests.{not-true, not-false, le-leb, lt-leb, ne-eqb}
 use Rattle.body.specs.declared.tag.Form.the-variants.{Snapshot, Delta}
 use Rattle.payload.specs.Content.{Bytes}
+use Rattle.payload.specs.Limit.{limit}
 use Rattle.payload.specs.Payload.{encode}
 use Rattle.delta.specs.declared.refusal.Refusal.{Refusal}
 use Rattle.delta.specs.declared.refusal.Refusal.the-variants.{IllFormed, StoreFull}
@@ -285,7 +286,7 @@ module _ (h : History) (new s d : Bytes) (x : Accepts h new s d) where
   pub accept-renews : h .active ≡ true → Renews h new s d
   accept-renews a = record { formed = x .formed; admitted = x .admitted; active = a }
 
-  pub accept-short : length new ≤ 16777216
+  pub accept-short : length new ≤ limit Snapshot
   accept-short = admitted-short new (x .admitted)
 
   module _ (a : h .active ≡ false) where

@@ -4,6 +4,7 @@ use mathlib.Core.Path.{_≡_, ap, _∙_}
 use Rattle.serial.specs.declared.Serial.{Serial}
 use Rattle.serial.specs.declared.Session.{Session}
 use Rattle.serial.specs.declared.timing.Timing.{Timing}
+use Rattle.serial.specs.Serial.{zeroSession}
 use Rattle.delta.specs.declared.refusal.Refusal.{Refusal}
 use Rattle.item.specs.declared.sink.Counts.{Counts}
 use Rattle.payload.specs.Content.{Bytes}
@@ -23,8 +24,8 @@ module _ (j : judge.Judged) (a : Answer) where
   judged-accepted session serial times c e q = rw e (λ i. record { answer = q i; session = session; timing = times })
 
   pub judged-refused : (r : Refusal) → j ≡ Refused r → a ≡ refused r →
-      record { answer = a; session = record { 0 = 0 }; timing = record { refresh = 0; retry = 0; expire = 0 } } ≡ flatJudged j
-  judged-refused r e q = rw e (λ i. record { answer = q i; session = record { 0 = 0 }; timing = record { refresh = 0; retry = 0; expire = 0 } })
+      record { answer = a; session = zeroSession; timing = record { refresh = 0; retry = 0; expire = 0 } } ≡ flatJudged j
+  judged-refused r e q = rw e (λ i. record { answer = q i; session = zeroSession; timing = record { refresh = 0; retry = 0; expire = 0 } })
 
 -- the version is the one of its number
 module _ (u : ℕ) (v : Version) (c : v ≡ versionOf u) (s m : Bytes) where

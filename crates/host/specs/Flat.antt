@@ -1,6 +1,7 @@
 -- The numbers that the C interface hands back for each answer.
 use Prim.Native.Nat.{ℕ}
 use Rattle.serial.specs.declared.Serial.{Serial}
+use Rattle.serial.specs.Serial.{zeroSerial}
 use Rattle.delta.specs.declared.refusal.Refusal.{Refusal}
 use Rattle.item.specs.declared.sink.Counts.{Counts}
 use Rattle.delta.specs.declared.construct.Constructed.{Constructed}
@@ -18,7 +19,7 @@ refused r = record {
   kind = 0;
   number = numberOf r;
   argument = argumentOf r;
-  serial = record { 0 = 0 };
+  serial = zeroSerial;
   offset = offsetOf r;
   length = 0;
   announced = 0;
@@ -44,7 +45,7 @@ ofLength len = record { len = len; announced = 0; withdrawn = 0 }
 -- 1 a delta, 2 no change
 abbrev pub flatConstructed : Constructed → Answer
 flatConstructed (constructed.Delta serial c) = wrote 1 serial c
-flatConstructed constructed.NoChange = wrote 2 (record { 0 = 0 }) (ofLength 0)
+flatConstructed constructed.NoChange = wrote 2 zeroSerial (ofLength 0)
 flatConstructed (constructed.Refused r) = refused r
 
 -- 1 a delta
@@ -54,5 +55,5 @@ flatMerged (merged.Refused r) = refused r
 
 -- 1 a snapshot, by its length
 abbrev pub flatApplied : Applied → Answer
-flatApplied (applied.Snapshot len) = wrote 1 (record { 0 = 0 }) (ofLength len)
+flatApplied (applied.Snapshot len) = wrote 1 zeroSerial (ofLength len)
 flatApplied (applied.Refused r) = refused r

@@ -1,6 +1,7 @@
 -- What the calls that write messages hand back.
 use Prim.Native.Nat.{ℕ}
 use Rattle.serial.specs.declared.Serial.{Serial}
+use Rattle.serial.specs.Serial.{zeroSerial}
 use Rattle.wire.specs.declared.sent.Reply.{Reply}
 use Rattle.wire.specs.declared.sent.Reply.the-variants.{Refused, Data, Reset, Report}
 use Rattle.wire.specs.declared.sent.Sent as wire
@@ -14,7 +15,7 @@ insteadOf kind number len = record {
   kind = kind;
   number = number;
   argument = 0;
-  serial = record { 0 = 0 };
+  serial = zeroSerial;
   offset = 0;
   length = len;
   announced = 0;

@@ -16,7 +16,8 @@ use Rattle.field.specs.declared.head.Field.the-variants.{End, Cut, Whole}
 use Rattle.field.specs.declared.key.Key.{Key}
 use Rattle.field.specs.Key.{keyOf}
 use Rattle.field.specs.Cells.{Cell}
-use Rattle.field.specs.Places.{fieldAt, keyIn, keyPlace}
+use Rattle.field.specs.Places.{keyIn, keyPlace}
+use Rattle.field.specs.Head.{fieldAt}
 use Rattle.field.proofs.Fields.{whole-at, body-ordered, body-within, field-long}
 use Rattle.field.proofs.Keys.{key-fits, key-in}
 use Rattle.field.proofs.Walk.{good-end, good-cells, good-cut, good-body, good-next}

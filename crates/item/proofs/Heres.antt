@@ -18,7 +18,7 @@ use Rattle.body.specs.Tag.{tagOf, kindNumber, kindOf}
 use Rattle.field.specs.Head.{whole, front}
 use Rattle.field.specs.Key.{keyOf}
 use Rattle.field.specs.Cells.{Cell}
-use Rattle.field.specs.Run.{GoodAt}
+use Rattle.field.specs.Places.{GoodAt}
 use Rattle.field.proofs.Fronts.{opens}
 use Rattle.field.proofs.Run.{cells-more}
 use Rattle.field.proofs.Common.{front-same, Found, found, good-behind}

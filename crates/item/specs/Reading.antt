@@ -13,7 +13,7 @@ use Rattle.body.specs.declared.tag.Form.the-variants as form
 use Rattle.body.specs.declared.tag.Action.{Action}
 use Rattle.body.specs.declared.tag.Action.the-variants as action
 use Rattle.field.specs.Cells.{Cell, cells}
-use Rattle.field.specs.Run.{GoodAt}
+use Rattle.field.specs.Places.{GoodAt}
 use Rattle.payload.specs.Content.{Bytes, entryOf}
 use Rattle.payload.specs.Payload.{items, changes}
 use Rattle.item.specs.declared.place.Part.{Part}

@@ -13,6 +13,7 @@ use lib.Seq.{take-length, take-append-seam}
 use Rattle.order.specs.Comparison.{bytes}
 use Rattle.change.proofs.Whole.{merge-earlier}
 use Rattle.serial.specs.declared.Serial.{Serial}
+use Rattle.serial.specs.Serial.{zeroSerial}
 use Rattle.body.specs.declared.tag.Form.the-variants.{Snapshot, Delta}
 use Rattle.field.specs.declared.verdict.Verdict.the-variants.{Fine}
 use Rattle.field.specs.Head.{front}
@@ -44,7 +45,8 @@ use Rattle.listing.specs.declared.report.Report.the-variants as report
 use Rattle.listing.specs.declared.diff.File.{File}
 use Rattle.listing.specs.declared.diff.File.the-variants.{Absent, TooLong, Read}
 use Rattle.listing.specs.Listing.{listingOf}
-use Rattle.listing.specs.Report.{writtenOf, listedOf, lenOf, Told}
+use Rattle.listing.specs.Report.{writtenOf, listedOf}
+use Rattle.listing.specs.Told.{lenOf, Told}
 use Rattle.listing.specs.Answer.{listOf, listOut, reportAt, reportOf, textOf, deltaAfter, diffOf, diffOut}
 
 -- each element is a byte, as a lent slice has it
@@ -111,14 +113,14 @@ pub ruleset entering = (list-refused, list-left, list-told, list-made, list-out,
 
 -- ---- report_change, report_of
 
-module _ (old new d : Bytes) (x : Constructed) (e : x ≡ constructOf old new (record { 0 = 0 }) (length d)) where
-  pub change-made : (s : Serial) (c : Counts) → x ≡ constructed.Delta s c → report.Changed s c ≡ reportAt (constructOf old new (record { 0 = 0 }) (length d))
+module _ (old new d : Bytes) (x : Constructed) (e : x ≡ constructOf old new zeroSerial (length d)) where
+  pub change-made : (s : Serial) (c : Counts) → x ≡ constructed.Delta s c → report.Changed s c ≡ reportAt (constructOf old new zeroSerial (length d))
   change-made s c q = rw (← e, q)
 
-  pub change-none : x ≡ constructed.NoChange → report.Same ≡ reportAt (constructOf old new (record { 0 = 0 }) (length d))
+  pub change-none : x ≡ constructed.NoChange → report.Same ≡ reportAt (constructOf old new zeroSerial (length d))
   change-none q = rw (← e, q)
 
-  pub change-refused : (r : Refusal) → x ≡ constructed.Refused r → report.Refused r ≡ reportAt (constructOf old new (record { 0 = 0 }) (length d))
+  pub change-refused : (r : Refusal) → x ≡ constructed.Refused r → report.Refused r ≡ reportAt (constructOf old new zeroSerial (length d))
   change-refused r q = rw (← e, q)
 
 pub ruleset changing = (change-made, change-none, change-refused)
@@ -142,7 +144,7 @@ module _ (f : File) (old : Bytes) (g : File) (new d : Bytes) where
   pub long-second : f ≡ Read → g ≡ TooLong → report.Refused (refusal.TooLong 2) ≡ reportOf f old g new (length d)
   long-second e q = rw (e, q)
 
-  pub read-both : (r : Report) → f ≡ Read → g ≡ Read → r ≡ reportAt (constructOf old new (record { 0 = 0 }) (length d)) → r ≡ reportOf f old g new (length d)
+  pub read-both : (r : Report) → f ≡ Read → g ≡ Read → r ≡ reportAt (constructOf old new zeroSerial (length d)) → r ≡ reportOf f old g new (length d)
   read-both r e q h = rw (e, q) h
 
   -- the delta stays as it was unless both were read
@@ -177,7 +179,7 @@ clash z = absurd (omega arith)
 module _ (old new : Bytes) (room : ℕ) where
   made-at : (x : Admitted) → admitOf Snapshot old Snapshot new ≡ x → (t w : Bool) → eqb (length (differenceOf old new)) 0 ≡ t →
       leb (length (differenceOf old new)) room ≡ w → (s : Serial) (c : Counts) →
-      constructAt x (differenceOf old new) (record { 0 = 0 }) room ≡ constructed.Delta s c → Made old new room c
+      constructAt x (differenceOf old new) zeroSerial room ≡ constructed.Delta s c → Made old new room c
   made-at (No r) a t w p l s c e = clash (cc)
   made-at Yes a true w p l s c e = let q = rw p at e in clash (cc)
   made-at Yes a false false p l s c e = let q = rw (p, l) at e in clash (cc)
@@ -185,7 +187,7 @@ module _ (old new : Bytes) (room : ℕ) where
       let q = rw (p, l) at e in
       record { admitted = a; counts = cc; fits = leb-true (length (differenceOf old new)) room l }
 
-  pub made : (s : Serial) (c : Counts) → constructOf old new (record { 0 = 0 }) room ≡ constructed.Delta s c → Made old new room c
+  pub made : (s : Serial) (c : Counts) → constructOf old new zeroSerial room ≡ constructed.Delta s c → Made old new room c
   unfolding constructOf
   made s c e =
       made-at (admitOf Snapshot old Snapshot new) refl (eqb (length (differenceOf old new)) 0) (leb (length (differenceOf old new)) room) refl refl s c e
@@ -195,7 +197,7 @@ module _ (old new d : Bytes) where
   D = differenceOf old new
 
   abbrev answer : Constructed
-  answer = constructOf old new (record { 0 = 0 }) (length d)
+  answer = constructOf old new zeroSerial (length d)
 
   module _ (s : Serial) (c : Counts) (e : answer ≡ constructed.Delta s c) where
     out-is : constructOut old new d ≡ writtenOver D d

@@ -10,7 +10,7 @@ use lib.Seq.{drop-cons}
 use Rattle.number.specs.Bytes.{part}
 use Rattle.field.specs.declared.head.Field.{Field}
 use Rattle.field.specs.declared.head.Field.the-variants.{End, Cut, Whole}
-use Rattle.field.specs.Places.{fieldAt}
+use Rattle.field.specs.Head.{fieldAt}
 use Rattle.field.specs.Cells.{Cell, cells}
 use Rattle.field.proofs.Fields.{whole-at, cut-at, body-ordered, body-within, field-less}
 use Rattle.field.proofs.Run.{cells-at-cut}

@@ -26,7 +26,8 @@ use Rattle.listing.specs.declared.listing.Listed.the-variants as listed
 use Rattle.listing.specs.Text.{ascii, decimalF, decimal}
 use Rattle.listing.specs.Put.{Puts}
 use Rattle.listing.specs.Listing.{named, threeOf, headOf, linesOf, listingOf}
-use Rattle.listing.specs.Report.{refusedLine, absentLine, writtenOf, listedOf, lenOf, Counted, Told}
+use Rattle.listing.specs.Report.{refusedLine, absentLine, writtenOf, listedOf}
+use Rattle.listing.specs.Told.{lenOf, Counted, Told}
 use Rattle.listing.proofs.Putting.{puts-append}
 
 -- ---- how long a number and a line of three are

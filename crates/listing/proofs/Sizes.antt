@@ -6,6 +6,7 @@ use native.Mathlib.Omega.{arith}
 use borrow.Author.Tests.{le-leb}
 use lib.ListN.{length, length-append}
 use Rattle.serial.specs.declared.Serial.{Serial}
+use Rattle.serial.specs.Serial.{zeroSerial}
 use Rattle.field.specs.Head.{Front, end, cut, whole, front}
 use Rattle.field.specs.Cells.{Cell, cellsF, cells}
 use Rattle.field.proofs.Fronts.{shorter}
@@ -59,7 +60,7 @@ absent-short : (n : ℕ) → length (absentLine n) ≤ 109
 absent-short n = omega (arith, named-short (ascii "no file ") n (omega arith), length-append (named (ascii "no file ") n) (10 ∷ []))
 
 module _ (old new : Bytes) (room : ℕ) where
-  answer-short : (x : Constructed) → constructOf old new (record { 0 = 0 }) room ≡ x → length (writtenOf (reportAt x) (differenceOf old new)) ≤ 3 * room + 109
+  answer-short : (x : Constructed) → constructOf old new zeroSerial room ≡ x → length (writtenOf (reportAt x) (differenceOf old new)) ≤ 3 * room + 109
   answer-short (constructed.Delta s c) e = omega (arith, listing-short s (differenceOf old new), made old new room s c e .fits)
   answer-short constructed.NoChange e = omega arith
   answer-short (constructed.Refused r) e = omega (arith, refused-short r)
@@ -73,7 +74,7 @@ module _ (old new : Bytes) (room : ℕ) where
   text-short TooLong Read = omega (arith, refused-short (refusal.TooLong 1))
   text-short Read Absent = omega (arith, absent-short 2)
   text-short Read TooLong = omega (arith, refused-short (refusal.TooLong 2))
-  text-short Read Read = answer-short (constructOf old new (record { 0 = 0 }) room) refl
+  text-short Read Read = answer-short (constructOf old new zeroSerial room) refl
 
   -- so with that room for the text, it is always written
   pub always-written : (f g : File) (space : ℕ) → 3 * room + 109 ≤ space → diffOf f old g new room space ≡ Text (length (textOf f old g new room))

@@ -1,6 +1,7 @@
 -- What the two entries answer, and what they leave in what was lent.
 use Prim.Native.Nat.{ℕ}
 use Rattle.serial.specs.declared.Serial.{Serial}
+use Rattle.serial.specs.Serial.{zeroSerial}
 use Rattle.body.specs.declared.tag.Form.the-variants.{Delta}
 use Rattle.payload.specs.Content.{Bytes}
 use Rattle.delta.specs.declared.refusal.Refusal.the-variants as refusal
@@ -47,7 +48,7 @@ reportOf Read old Absent new room = report.Absent 2
 reportOf TooLong old TooLong new room = report.Refused (refusal.TooLong 1)
 reportOf TooLong old Read new room = report.Refused (refusal.TooLong 1)
 reportOf Read old TooLong new room = report.Refused (refusal.TooLong 2)
-reportOf Read old Read new room = reportAt (constructOf old new (record { 0 = 0 }) room)
+reportOf Read old Read new room = reportAt (constructOf old new zeroSerial room)
 
 -- what is written for two files
 unfoldable pub textOf : File → Bytes → File → Bytes → ℕ → Bytes

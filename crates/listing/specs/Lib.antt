@@ -4,3 +4,4 @@ pub mod Report
 pub mod Answer
 -- what only the contracts of inner functions say
 pub mod Put
+pub mod Told

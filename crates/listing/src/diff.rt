@@ -8,6 +8,7 @@ use delta::refusal::Refusal;
 use serial::Serial;
 ghost use mathlib.Core.Path.{_≡_};
 ghost use lib.ListN.{length};
+ghost use Rattle.serial.specs.Serial.{zeroSerial};
 ghost use Rattle.delta.specs.Answer.{constructOf, constructOut};
 ghost use Rattle.listing.specs.Answer.{reportAt, reportOf, deltaAfter, diffOf, diffOut};
 
@@ -22,7 +23,7 @@ pub enum File {
 
 // The difference of two snapshots, from serial 0, into `delta`.
 fn report_change(old: &[u8], new: &[u8], delta: &mut [u8]) -> Report
-    ensures { λ r. ⌜ (r ≡ reportAt (constructOf (now (old .entry)) (now (new .entry)) (record { 0 = 0 }) (length (now (delta .entry))))) × (now (delta .exit) ≡ constructOut (now (old .entry)) (now (new .entry)) (now (delta .entry))) ⌝ }
+    ensures { λ r. ⌜ (r ≡ reportAt (constructOf (now (old .entry)) (now (new .entry)) zeroSerial (length (now (delta .entry))))) × (now (delta .exit) ≡ constructOut (now (old .entry)) (now (new .entry)) (now (delta .entry))) ⌝ }
 {
     match construct(old, new, Serial(0), delta) {
         Constructed::Delta(serial, counts) => Report::Changed(serial, counts),

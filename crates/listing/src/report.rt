@@ -13,7 +13,8 @@ ghost use Rattle.delta.specs.declared.admit.Admitted.the-variants.{Yes};
 ghost use Rattle.delta.specs.Answer.{outAfter};
 ghost use Rattle.listing.specs.Listing.{listingOf};
 ghost use Rattle.listing.specs.Put.{Puts};
-ghost use Rattle.listing.specs.Report.{Counted, Told, refusedLine, absentLine, writtenOf, lenOf, listedOf};
+ghost use Rattle.listing.specs.Report.{refusedLine, absentLine, writtenOf, listedOf};
+ghost use Rattle.listing.specs.Told.{Counted, Told, lenOf};
 
 pub enum Report {
     // A delta: its target serial, and how long it is, with its counts.

@@ -11,7 +11,8 @@ use borrow.Author.Tests.{le-leb, eq-eqb, eqb-true}
 use Rattle.order.specs.Comparison.{bytes}
 use Rattle.order.specs.Map.{All}
 use Rattle.change.specs.Difference.{diff}
-use Rattle.change.specs.History.{lastN, newest, diffs, held}
+use Rattle.change.specs.History.{lastN, newest}
+use Rattle.change.specs.Held.{diffs, held}
 use Rattle.change.specs.Grouping.{steps}
 use Rattle.change.proofs.Chain.{all-newest}
 use Rattle.change.proofs.History.{diffs-length, held-push}

@@ -9,7 +9,8 @@ use lib.ListN.{length, drop, length-append, length-drop, length-map}
 use lib.Seq.{drop-drop, drop-append-le}
 use borrow.Author.Tests.{eqb-true, eqb-false}
 use Rattle.order.specs.Map.{All}
-use Rattle.change.specs.History.{lastN, newest, nth}
+use Rattle.change.specs.History.{lastN, newest}
+use Rattle.change.specs.Held.{nth}
 use Rattle.change.specs.Grouping.{steps}
 use Rattle.change.proofs.History.{push-room, push-full}
 use Rattle.past.specs.Update.{pushed}

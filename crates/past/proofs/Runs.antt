@@ -16,7 +16,8 @@ use Rattle.order.proofs.Comparison.{strings}
 use Rattle.order.proofs.Map.{none≢some}
 use Rattle.change.specs.Difference.{diff}
 use Rattle.change.specs.Merge.{mergeAll}
-use Rattle.change.specs.History.{lastN, newest, nth}
+use Rattle.change.specs.History.{lastN, newest}
+use Rattle.change.specs.Held.{nth}
 use Rattle.change.proofs.Chain.{all-newest, all-nth}
 use Rattle.change.proofs.History.{answer}
 use Rattle.serial.specs.declared.Serial.{Serial}

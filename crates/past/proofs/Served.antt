@@ -8,7 +8,7 @@ use native.Mathlib.Omega.{arith}
 use lib.Dec.{leb, eqb}
 use lib.ListN.{length}
 use borrow.Author.Tests.{leb-true, eqb-true, eqb-false, le-leb, eq-eqb, ne-eqb}
-use Rattle.change.specs.History.{nth}
+use Rattle.change.specs.Held.{nth}
 use Rattle.serial.specs.declared.Serial.{Serial}
 use Rattle.serial.specs.Serial.{nextOf, distanceOf}
 use Rattle.payload.specs.Content.{Bytes}

@@ -4,7 +4,7 @@ use mathlib.Core.Path.{_≡_, refl}
 use native.Mathlib.Omega.{arith}
 use lib.ListN.{length}
 use Rattle.serial.specs.declared.Serial.{Serial}
-use Rattle.serial.specs.Serial.{distanceOf}
+use Rattle.serial.specs.Serial.{zeroSerial, distanceOf}
 use Rattle.serial.proofs.Steps.{same-serial}
 use Rattle.body.specs.declared.tag.Form.the-variants.{Snapshot}
 use Rattle.payload.specs.Content.{Bytes}
@@ -20,7 +20,7 @@ use Rattle.past.specs.Query.{isServed, queryAdmitted, answerOf, queryAt,
 use Rattle.past.specs.Full.{fullOf, notifyOf, readyOf}
 use Rattle.past.specs.Run.{World, Call, update, query, full, notify, ready, updated, queried, replyOf, stepOf}
 use Rattle.past.specs.Promise.{changesIn}
-use Rattle.past.specs.Start.{zero, startedAt, worldAt, Start}
+use Rattle.past.specs.Start.{startedAt, worldAt, Start}
 
 start-kept : (w : World) (c : Call) → stepOf w c .history .start ≡ w .history .start
 unfolding updateOf
@@ -94,7 +94,7 @@ module _ (s t : Serial) (w : World) (e : goodSerial (startedAt s (w .history)) �
   same-answers notify = (refl, refl)
   same-answers ready = (refl, refl)
 
-created-zero : (session keep : ℕ) (a : Admitted) → (createAt a session keep zero .history .start ≡ zero) × (createAt a session keep zero .history .newest ≡ zero)
+created-zero : (session keep : ℕ) (a : Admitted) → (createAt a session keep zeroSerial .history .start ≡ zeroSerial) × (createAt a session keep zeroSerial .history .newest ≡ zeroSerial)
 created-zero session keep Yes = (refl, refl)
 created-zero session keep (No r) = (refl, refl)
 

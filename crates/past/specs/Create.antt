@@ -3,6 +3,7 @@ use Prim.Native.Nat.{ℕ}
 use mathlib.Core.List.{[]}
 use mathlib.Core.Bool.{false, cond}
 use Rattle.serial.specs.declared.Serial.{Serial}
+use Rattle.serial.specs.Serial.{zeroSerial}
 use Rattle.body.specs.declared.tag.Form.the-variants.{Snapshot, Delta}
 use Rattle.payload.specs.Content.{Bytes}
 use Rattle.delta.specs.declared.refusal.Refusal.the-variants.{BadKeep}
@@ -36,7 +37,7 @@ createAdmitted keep snapshots deltas =
 -- a fresh history, or a history of zeros
 abbrev pub createAt : Admitted → ℕ → ℕ → Serial → Created
 createAt Yes session keep start = record { answer = Done; history = freshOf session keep start }
-createAt (No r) session keep start = record { answer = Refused r; history = freshOf 0 0 (record { 0 = 0 }) }
+createAt (No r) session keep start = record { answer = Refused r; history = freshOf 0 0 zeroSerial }
 
 -- session, keep, start serial, the two stores (which stay as they were)
 unfoldable pub createOf : ℕ → ℕ → Serial → Bytes → Bytes → Created

@@ -1,6 +1,6 @@
 -- The full answer, the notice and the active mark.
 use mathlib.Core.Bool.{Bool, cond}
-use Rattle.serial.specs.Serial.{sessionOf}
+use Rattle.serial.specs.Serial.{zeroSerial, zeroSession, sessionOf}
 use Rattle.payload.specs.Content.{Bytes}
 use Rattle.delta.specs.declared.refusal.Refusal.the-variants.{IllFormed}
 use Rattle.past.specs.declared.state.History.{History}
@@ -14,7 +14,7 @@ unfoldable pub fullOf : History → Bytes → Bytes → Full
 fullOf h snapshots deltas =
     cond (wellFormed h snapshots deltas)
     (record { session = sessionOf (h .session); serial = h .newest; answer = Held (h .snapshot) })
-    (record { session = record { 0 = 0 }; serial = record { 0 = 0 }; answer = Refused IllFormed })
+    (record { session = zeroSession; serial = zeroSerial; answer = Refused IllFormed })
 
 -- the 16-bit session and F
 unfoldable pub notifyOf : History → Notice

@@ -9,7 +9,7 @@ use Rattle.change.specs.Merge.{mergeAll}
 use Rattle.change.specs.History.{lastN}
 use Rattle.serial.specs.declared.Serial.{Serial}
 use Rattle.serial.specs.declared.Session.{Session}
-use Rattle.serial.specs.Serial.{distanceOf, sessionOf}
+use Rattle.serial.specs.Serial.{zeroSerial, zeroSession, distanceOf, sessionOf}
 use Rattle.body.specs.declared.tag.Form.the-variants.{Delta}
 use Rattle.payload.specs.Content.{Bytes}
 use Rattle.payload.specs.Payload.{encode, changes}
@@ -58,7 +58,7 @@ answerOf h asked deltas = mergedLast (distanceOf (h .newest) asked) (heldDeltas 
 
 -- refused: other numbers 0
 abbrev pub refusedWith : Refusal → Queried
-refusedWith r = record { session = record { 0 = 0 }; serial = record { 0 = 0 }; answer = Refused r }
+refusedWith r = record { session = zeroSession; serial = zeroSerial; answer = Refused r }
 
 -- the 16-bit session and F, and the answer's length and counts
 abbrev pub servedWith : History → Bytes → Queried

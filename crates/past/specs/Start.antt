@@ -5,6 +5,7 @@ use mathlib.Core.List.{List}
 use mathlib.Core.Bool.{true, cond}
 use lib.Dec.{leb, eqb}
 use Rattle.serial.specs.declared.Serial.{Serial}
+use Rattle.serial.specs.Serial.{zeroSerial}
 use Rattle.payload.specs.Content.{Bytes}
 use Rattle.past.specs.declared.state.History.{History}
 use Rattle.past.specs.WellFormed.{goodSerial}
@@ -12,9 +13,6 @@ use Rattle.past.specs.Create.{createOf}
 use Rattle.past.specs.Query.{isServed}
 use Rattle.past.specs.Run.{World, Call, replyOf, stepOf}
 use Rattle.past.specs.Promise.{changesIn, serialIn}
-
-abbrev pub zero : Serial
-zero = record { 0 = 0 }
 
 -- the same history with another start serial
 abbrev pub startedAt : Serial → History → History
@@ -41,11 +39,11 @@ pub record Start : Type 0 where
       ((asked : Serial) (d : ℕ) → isServed s (w .history .n) asked d ≡ isServed t (w .history .n) asked d) →
       (c : Call) → (replyOf (worldAt s w) c ≡ replyOf (worldAt t w) c) × (worldAt t (stepOf (worldAt s w) c) ≡ stepOf (worldAt t w) c)
   -- at 0 that condition is: inactive or n = 0 with F not 0
-  pub formed : (h : History) → goodSerial (startedAt zero h) ≡ cond (h .active) (cond (eqb (h .n) 0) (eqb (h .newest .0) 0) true) (eqb (h .newest .0) 0)
+  pub formed : (h : History) → goodSerial (startedAt zeroSerial h) ≡ cond (h .active) (cond (eqb (h .n) 0) (eqb (h .newest .0) 0) true) (eqb (h .newest .0) 0)
   -- and with n = 0 serial 0 is served
-  pub served : (n : ℕ) (asked : Serial) (d : ℕ) → isServed zero n asked d ≡ cond (eqb n 0) (eqb (asked .0) 0) (leb d n)
+  pub served : (n : ℕ) (asked : Serial) (d : ℕ) → isServed zeroSerial n asked d ≡ cond (eqb n 0) (eqb (asked .0) 0) (leb d n)
   -- creation at 0, done or refused: F is 0
   pub created : (session keep : ℕ) (snapshots deltas : Bytes) →
-      (createOf session keep zero snapshots deltas .history .start ≡ zero) × (createOf session keep zero snapshots deltas .history .newest ≡ zero)
+      (createOf session keep zeroSerial snapshots deltas .history .start ≡ zeroSerial) × (createOf session keep zeroSerial snapshots deltas .history .newest ≡ zeroSerial)
   -- F is the count of changes modulo 2^32
-  pub serial : (given : List Bytes) → serialIn zero given ≡ record { 0 = changesIn given % 2 ^ 32 }
+  pub serial : (given : List Bytes) → serialIn zeroSerial given ≡ record { 0 = changesIn given % 2 ^ 32 }

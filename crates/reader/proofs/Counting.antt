@@ -9,7 +9,7 @@ use lib.ListN.{length, drop}
 use Rattle.field.specs.declared.head.Field.{Field}
 use Rattle.field.specs.declared.head.Field.the-variants.{End, Cut, Whole}
 use Rattle.field.specs.Cells.{cells}
-use Rattle.field.specs.Places.{fieldAt}
+use Rattle.field.specs.Head.{fieldAt}
 use Rattle.field.proofs.Fields.{cut-at, body-within, field-long}
 use Rattle.field.proofs.Run.{cells-at-cut}
 use Rattle.field.proofs.Walk.{good-end, good-cells}

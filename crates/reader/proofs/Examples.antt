@@ -5,8 +5,7 @@ use mathlib.Core.List.{List, [], _∷_, _++_}
 use base.Fml.{GName}
 use denote.Ref.{RefT}
 use Rattle.field.specs.declared.head.Field.the-variants.{End, Cut, Whole}
-use Rattle.field.specs.Head.{front}
-use Rattle.field.specs.Places.{fieldAt}
+use Rattle.field.specs.Head.{front, fieldAt}
 use Rattle.field.specs.Cells.{cellsF, cells}
 use Rattle.reader.specs.Step.{start}
 use Rattle.reader.specs.Stepping.{answers, steps}

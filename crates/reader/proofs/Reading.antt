@@ -11,9 +11,9 @@ use Rattle.field.specs.declared.head.Field.{Field}
 use Rattle.field.specs.declared.head.Field.the-variants.{End, Cut, Whole}
 use Rattle.field.specs.declared.verdict.Verdict.the-variants.{Fine}
 use Rattle.field.specs.Verdict.{verdict}
-use Rattle.field.specs.Places.{fieldAt}
+use Rattle.field.specs.Head.{fieldAt}
 use Rattle.field.specs.Cells.{Cell, cells}
-use Rattle.field.specs.Run.{GoodAt}
+use Rattle.field.specs.Places.{GoodAt}
 use Rattle.field.proofs.Fields.{field-end, end-at, cut-at, body-within}
 use Rattle.field.proofs.Fronts.{front-end}
 use Rattle.field.proofs.Run.{cells-at-cut}

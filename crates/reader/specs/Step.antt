@@ -4,7 +4,7 @@ use mathlib.Core.List.{List}
 use denote.Ref.{RefT, now}
 use Rattle.field.specs.declared.head.Field.{Field}
 use Rattle.field.specs.declared.head.Field.the-variants.{End, Cut, Whole}
-use Rattle.field.specs.Places.{fieldAt}
+use Rattle.field.specs.Head.{fieldAt}
 use Rattle.reader.specs.declared.DeltaReader.{DeltaReader}
 
 -- a reader at the start of a delta

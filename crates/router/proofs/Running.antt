@@ -21,7 +21,7 @@ use Rattle.change.proofs.Chain.{all-drop}
 use Rattle.serial.specs.declared.Serial.{Serial}
 use Rattle.serial.specs.declared.Session.{Session}
 use Rattle.serial.specs.declared.timing.Timing.{Timing}
-use Rattle.serial.specs.Serial.{distanceOf, sessionOf}
+use Rattle.serial.specs.Serial.{zeroSession, distanceOf, sessionOf}
 use Rattle.serial.specs.Timing.{timingOf}
 use Rattle.serial.proofs.Bounds.{intervals}
 use Rattle.body.specs.declared.tag.Form.the-variants.{Snapshot, Delta}
@@ -186,11 +186,11 @@ since-is h asked snapshots deltas base now e gb gn q =
 
 -- the session of a notice
 abbrev named : Reply → Session
-named (updated a) = record { 0 = 0 }
-named (queried q out) = record { 0 = 0 }
-named (fully f) = record { 0 = 0 }
+named (updated a) = zeroSession
+named (queried q out) = zeroSession
+named (fully f) = zeroSession
 named (noticed n) = n .session
-named (isReady active) = record { 0 = 0 }
+named (isReady active) = zeroSession
 
 module _ (v : Version) (session keep : ℕ) (start : Serial) (r : Reached) (p : Promise session keep start r) (goods : All GoodSnapshot (r .given)) (times : Timing) where
   abbrev w : World

@@ -26,7 +26,7 @@ use Rattle.body.specs.Halves.{cleanHalves}
 use Rattle.body.proofs.Masks.{halves, halves-high}
 use Rattle.field.specs.declared.head.Field.the-variants.{Whole}
 use Rattle.field.specs.declared.words.Words.{Words}
-use Rattle.field.specs.Places.{fieldAt}
+use Rattle.field.specs.Head.{fieldAt}
 use Rattle.field.specs.Words.{wordsAt}
 use Rattle.field.specs.If.{If}
 use Rattle.field.proofs.Fields.{field-whole}

@@ -16,16 +16,17 @@ use Rattle.body.specs.declared.tag.Tag.{Tag}
 use Rattle.body.specs.declared.tag.Tag.the-variants.{Unknown, Origin, RouterKey, Aspa}
 use Rattle.body.specs.Origin.{goodOrigin}
 use Rattle.body.specs.RouterKey.{goodRouterKey}
-use Rattle.body.specs.Tag.{tagOf, goodAspaBody, goodBody, sensible, sound, kindOf}
+use Rattle.body.specs.Tag.{tagOf, goodAspaBody, goodBody, sensible, kindOf}
+use Rattle.body.specs.Sound.{sound}
 use Rattle.body.proofs.Sizes.{both}
 use Rattle.field.specs.declared.head.Field.{Field}
 use Rattle.field.specs.declared.head.Field.the-variants.{End, Cut, Whole}
 use Rattle.field.specs.declared.key.Key.{Key}
 use Rattle.field.specs.declared.verdict.Verdict.{Verdict}
 use Rattle.field.specs.declared.verdict.Verdict.the-variants.{Fine, Bad, Senseless, NotAbove}
-use Rattle.field.specs.Head.{front}
+use Rattle.field.specs.Head.{front, fieldAt}
 use Rattle.field.specs.Verdict.{judge, verdictF, verdict}
-use Rattle.field.specs.Places.{fieldAt, keyIn, keyPlace}
+use Rattle.field.specs.Places.{keyIn, keyPlace}
 use Rattle.field.proofs.Fields.{end-at, cut-at, whole-at, body-ordered, body-within, field-less}
 use Rattle.field.proofs.Keys.{key-in}
 use Rattle.verdict.specs.Progress.{refusedAt, Refuses}

@@ -17,13 +17,15 @@ use Rattle.body.specs.declared.tag.Form.{Form}
 use Rattle.body.specs.declared.tag.Tag.{Tag}
 use Rattle.body.specs.declared.tag.Tag.the-variants.{Unknown, Origin, RouterKey, Aspa}
 use Rattle.body.specs.Origin.{goodOrigin}
-use Rattle.body.specs.Tag.{tagOf, kindNumber, kindOf, goodTagged, goodBody, sensibleTagged, sensible, sound}
+use Rattle.body.specs.Tag.{tagOf, kindNumber, kindOf, goodTagged, goodBody, sensibleTagged, sensible}
+use Rattle.body.specs.Sound.{sound}
 use Rattle.body.proofs.Sizes.{both}
 use Rattle.field.specs.declared.head.Field.{Field}
 use Rattle.field.specs.declared.head.Field.the-variants.{Whole}
 use Rattle.field.specs.declared.key.Key.{Key}
 use Rattle.field.specs.declared.words.Words.{Words}
-use Rattle.field.specs.Places.{fieldAt, keyIn, keyPlace}
+use Rattle.field.specs.Places.{keyIn, keyPlace}
+use Rattle.field.specs.Head.{fieldAt}
 use Rattle.field.specs.Words.{wordsAt}
 use Rattle.field.specs.If.{If}
 use Rattle.field.proofs.Fields.{whole-at, body-ordered, body-within}

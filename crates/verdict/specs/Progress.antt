@@ -6,12 +6,14 @@ use mathlib.Core.Bool.{Bool, true, false, cond}
 use lib.ListN.{length, drop}
 use Rattle.number.specs.Bytes.{part}
 use Rattle.body.specs.declared.tag.Form.{Form}
-use Rattle.body.specs.Tag.{kindOf, goodBody, sensible, sound}
+use Rattle.body.specs.Tag.{kindOf, goodBody, sensible}
+use Rattle.body.specs.Sound.{sound}
 use Rattle.field.specs.declared.key.Key.{Key}
 use Rattle.field.specs.declared.head.Field.the-variants.{Whole}
 use Rattle.field.specs.declared.verdict.Verdict.{Verdict}
 use Rattle.field.specs.declared.verdict.Verdict.the-variants.{Bad, Senseless}
-use Rattle.field.specs.Places.{fieldAt, keyIn, keyPlace}
+use Rattle.field.specs.Places.{keyIn, keyPlace}
+use Rattle.field.specs.Head.{fieldAt}
 use Rattle.field.specs.Verdict.{verdictF, verdict}
 use Rattle.verdict.specs.declared.pass.Stand.{Stand}
 

@@ -22,7 +22,8 @@ use Rattle.change.specs.Merge.{table, mergeAt, merge}
 use Rattle.number.specs.Bytes.{AllBytes}
 use Rattle.body.specs.declared.tag.Form.{Form}
 use Rattle.field.specs.Cells.{Cell, cells, field, cellBytes}
-use Rattle.field.specs.Run.{Run, GoodAt, done, more}
+use Rattle.field.specs.Run.{Run, done, more}
+use Rattle.field.specs.Places.{GoodAt}
 use Rattle.field.proofs.Fronts.{shorter}
 use Rattle.field.proofs.Encode.{field-front, rest-bytes}
 use Rattle.field.proofs.Run.{cells-end, cells-more}

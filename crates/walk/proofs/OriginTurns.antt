@@ -28,7 +28,7 @@ use Rattle.body.proofs.Sizes.{origin-size}
 use Rattle.field.specs.Key.{keyOf}
 use Rattle.field.specs.Cells.{Cell, field, cellBytes}
 use Rattle.field.specs.If.{If}
-use Rattle.field.specs.Run.{GoodAt}
+use Rattle.field.specs.Places.{GoodAt}
 use Rattle.field.proofs.Common.{Found}
 use Rattle.field.proofs.Encode.{field-front}
 use Rattle.payload.specs.Content.{Bytes, entryOf}

@@ -19,10 +19,12 @@ use Rattle.change.specs.Difference as change
 use Rattle.change.specs.Merge.{table, mergeAt, merge}
 use Rattle.change.proofs.Whole.{merge-later, merge-earlier}
 use Rattle.body.specs.declared.tag.Form.{Form}
+use Rattle.body.specs.declared.tag.Form.the-variants.{Delta}
 use Rattle.field.specs.declared.key.Key.{Key}
 use Rattle.field.specs.Cells.{cellBytes}
 use Rattle.field.specs.Places.{keyIn}
 use Rattle.payload.specs.Content.{Bytes}
+use Rattle.payload.specs.Limit.{limit}
 use Rattle.payload.specs.Count.{announces, withdraws, sumOf}
 use Rattle.item.specs.declared.place.Act.{Act}
 use Rattle.item.specs.declared.place.Held.{Held}
@@ -449,8 +451,8 @@ pub ruleset passed = (pass-over, pass-stands, pass-on)
 pub record Merging (form : Form) (ra : Reading) (a : Bytes) (rb : Reading) (b o₀ : Bytes) (i j : ℕ) (c : Counts) (o : Bytes) : Type 0 where
   pub ready-a : Ready ra a i
   pub ready-b : Ready rb b j
-  pub short-a : length a ≤ 33_554_432
-  pub short-b : length b ≤ 33_554_432
+  pub short-a : length a ≤ limit Delta
+  pub short-b : length b ≤ limit Delta
   pub len : c .len ≤ 40_000 * (i + j)
   pub announced : c .announced ≤ i + j
   pub withdrawn : c .withdrawn ≤ i + j

@@ -11,7 +11,7 @@ use Rattle.change.specs.History.{lastN}
 use Rattle.serial.specs.declared.Serial.{Serial}
 use Rattle.serial.specs.declared.Session.{Session}
 use Rattle.serial.specs.declared.timing.Timing.{Timing}
-use Rattle.serial.specs.Serial.{distanceOf, sessionOf}
+use Rattle.serial.specs.Serial.{zeroSerial, zeroSession, distanceOf, sessionOf}
 use Rattle.serial.specs.Timing.{timingOf}
 use Rattle.payload.specs.Content.{Bytes}
 use Rattle.payload.specs.Payload.{items, changes}
@@ -58,7 +58,7 @@ pub data Plan : Type 0 where
 
 -- an answer that names no session and no serial
 abbrev pub aside : Reply → Sent
-aside r = record { session = record { 0 = 0 }; serial = record { 0 = 0 }; reply = r }
+aside r = record { session = zeroSession; serial = zeroSerial; reply = r }
 
 abbrev pub refusedWith : Refusal → Sent
 refusedWith r = aside (Refused r)
