@@ -134,7 +134,7 @@ module _ (form : Form) (c : Counts) (o : Bytes) (d : D) (c₀ : Counts) (o₀ : 
   none-bytes e = writes-nil form o (c .len) ∙ ap (λ (x : D). sets o (c .len) (writes form x)) (sym e) ∙ l .laid
 
   -- behind some items that were written
-  left-some : (e f : D) → d ≡ e ++ f → (r : Counts) (p : Bytes) → r ≡ plusAll form c e → p ≡ sets o (c .len) (writes form e) →
+  pub left-some : (e f : D) → d ≡ e ++ f → (r : Counts) (p : Bytes) → r ≡ plusAll form c e → p ≡ sets o (c .len) (writes form e) →
       Left-over form r p f c₀ o₀ d₀
   left-some e f q r p er ep = record {
     counts = rw er (sym (plus-append form c e f) ∙ ap (plusAll form c) (sym q) ∙ l .counts);
