@@ -3,3 +3,4 @@ pub mod Check
 pub mod Push
 pub mod Stage
 pub mod Place
+pub mod Put

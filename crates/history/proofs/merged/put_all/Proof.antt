@@ -1,5 +1,5 @@
 use borrow.Author.Needs.{needs}
-use Rattle.history.proofs.Putting.{Putting, measure, putting, put-key, put-act, put-room}
+use Rattle.history.proofs.Putting.{Putting, measure, putting}
 use Prim.Native.Nat.{_-_, _+_}
 use lib.ListN.{length}
 use Rattle.history.proofs.merged.put_all.Statement.{statement}
@@ -17,11 +17,11 @@ line-up-requires c κs = search (putting, needs)
 loop-holds : tie.Need-loop-holds Inv-loop μ-loop
 loop-holds c = search (putting, needs)
 
-next-requires : tie.Need-next-requires Inv-loop μ-loop
-next-requires c κs = search (putting, needs)
+put-step-requires : tie.Need-put-step-requires Inv-loop μ-loop
+put-step-requires c κs = search (putting, needs)
 
-enum-known-key : tie.Need-enum-known-key Inv-loop μ-loop
-enum-known-key c = search (putting, needs)
+enum-known-sum : tie.Need-enum-known-sum Inv-loop μ-loop
+enum-known-sum c = search (putting, needs)
 
 enum-told : tie.Need-enum-told Inv-loop μ-loop
 enum-told c = search (putting, needs)
@@ -31,9 +31,6 @@ same-length c = search (putting, needs)
 
 returns : tie.Need-returns Inv-loop μ-loop
 returns c = search (putting, needs)
-
-put-item-requires : tie.Need-put-item-requires Inv-loop μ-loop
-put-item-requires c κs = (search (put-key, needs), (search (put-act, needs), search (put-room, needs)))
 
 loop-less : tie.Need-loop-less Inv-loop μ-loop
 loop-less c = search (putting, needs)
@@ -49,11 +46,10 @@ put-all-spec =
     μ-loop
     line-up-requires
     loop-holds
-    next-requires
-    enum-known-key
+    put-step-requires
+    enum-known-sum
     enum-told
     same-length
     returns
-    put-item-requires
     loop-less
     loop-again)
