@@ -1,7 +1,7 @@
 use borrow.Author.Needs.{needs}
-use Rattle.history.proofs.Placing.{lasting}
-use Rattle.history.proofs.merged.merged_last.Statement.{statement}
-use Rattle.history.proofs.merged.merged_last.Tie as tie
+use Rattle.merged.proofs.Placing.{lasting}
+use Rattle.merged.proofs.last.merged_last.Statement.{statement}
+use Rattle.merged.proofs.last.merged_last.Tie as tie
 
 place-all-requires : tie.Need-place-all-requires
 place-all-requires c κs = search (lasting, needs)

@@ -1,7 +1,7 @@
 use borrow.Author.Needs.{needs}
-use Rattle.history.proofs.Putting.{steps}
-use Rattle.history.proofs.merged.put_lone.Statement.{statement}
-use Rattle.history.proofs.merged.put_lone.Tie as tie
+use Rattle.merged.proofs.Putting.{steps}
+use Rattle.merged.proofs.put.put_lone.Statement.{statement}
+use Rattle.merged.proofs.put.put_lone.Tie as tie
 
 pass-lone-requires : tie.Need-pass-lone-requires
 pass-lone-requires c κs = search (steps, needs)

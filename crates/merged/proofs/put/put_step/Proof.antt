@@ -1,7 +1,7 @@
 use borrow.Author.Needs.{needs}
-use Rattle.history.proofs.Putting.{stepping, step-puts}
-use Rattle.history.proofs.merged.put_step.Statement.{statement}
-use Rattle.history.proofs.merged.put_step.Tie as tie
+use Rattle.merged.proofs.Putting.{stepping, step-puts}
+use Rattle.merged.proofs.put.put_step.Statement.{statement}
+use Rattle.merged.proofs.put.put_step.Tie as tie
 
 put-next-requires : tie.Need-put-next-requires
 put-next-requires c κs = search (stepping, needs)

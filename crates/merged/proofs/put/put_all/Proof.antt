@@ -1,9 +1,9 @@
 use borrow.Author.Needs.{needs}
-use Rattle.history.proofs.Putting.{Putting, measure, putting}
+use Rattle.merged.proofs.Putting.{Putting, measure, putting}
 use Prim.Native.Nat.{_-_, _+_}
 use lib.ListN.{length}
-use Rattle.history.proofs.merged.put_all.Statement.{statement}
-use Rattle.history.proofs.merged.put_all.Tie as tie
+use Rattle.merged.proofs.put.put_all.Statement.{statement}
+use Rattle.merged.proofs.put.put_all.Tie as tie
 
 abbrev Inv-loop : tie.InvT-loop
 Inv-loop store at₀ ends from n out₀ counts₀ f₀ at out counts f = Putting store at₀ ends f₀ from n out₀ at f out counts

@@ -25,15 +25,14 @@ use Rattle.walk.specs.declared.walk.Output.{Output}
 use Rattle.item.specs.Write.{writes}
 use Rattle.walk.specs.Walk.{outputOf, wholeOut}
 use Rattle.item.proofs.Places.{drop-take}
-use Rattle.history.specs.declared.place.Places.{Places}
+use Rattle.merged.specs.declared.place.Places.{Places}
 use Rattle.past.specs.Store.{total, cuts}
 use Rattle.cursors.specs.Cursor.{D, run, runsN, runs, leftOf, itemsIn, itemsLeft, Stands, Bounded}
-use Rattle.history.specs.Place.{Summed, Placed, IsFine, Stored, lastMerged}
+use Rattle.merged.specs.Place.{between, Summed, Placed, IsFine, Stored, lastMerged}
 use Rattle.past.proofs.Lists.{all-map}
 use Rattle.past.proofs.Store.{cuts-length}
-use Rattle.history.specs.Push.{between}
 use Rattle.item.proofs.Fronts.{drop-bytes}
-use Rattle.history.proofs.Sizing.{merged-size}
+use Rattle.merged.proofs.Sizing.{merged-size}
 
 -- ---- sums
 

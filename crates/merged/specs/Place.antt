@@ -1,8 +1,8 @@
 -- Where the held deltas lie in the delta store, and the last of them merged.
-use Prim.Native.Nat.{ℕ, _+_, _≤_, _<_}
+use Prim.Native.Nat.{ℕ, _+_, _-_, _≤_, _<_}
 use mathlib.Core.Path.{_≡_}
 use mathlib.Core.List.{List, map}
-use lib.ListN.{length, getD, take}
+use lib.ListN.{length, getD, take, drop}
 use Rattle.order.specs.Comparison.{bytes}
 use Rattle.order.specs.Map.{All}
 use Rattle.change.specs.Merge.{mergeAll}
@@ -13,9 +13,13 @@ use Rattle.field.specs.Verdict.{verdict}
 use Rattle.payload.specs.Content.{Bytes}
 use Rattle.payload.specs.Payload.{changes}
 use Rattle.payload.specs.Limit.{limit}
-use Rattle.history.specs.declared.place.Places.{Places}
+use Rattle.merged.specs.declared.place.Places.{Places}
 use Rattle.past.specs.Store.{total, cuts}
 use Rattle.cursors.specs.Cursor.{D}
+
+-- the lengths from `from` up to `to`
+abbrev pub between : List ℕ → ℕ → ℕ → List ℕ
+between lens from to = take (to - from) (drop from lens)
 
 -- n lengths that a delta store can have room for
 pub record Summed (lengths : List ℕ) (n : ℕ) : Type 0 where

@@ -1,7 +1,7 @@
 use borrow.Author.Needs.{needs}
-use Rattle.history.proofs.Putting.{wholes}
-use Rattle.history.proofs.merged.put_whole.Statement.{statement}
-use Rattle.history.proofs.merged.put_whole.Tie as tie
+use Rattle.merged.proofs.Putting.{wholes}
+use Rattle.merged.proofs.last.put_whole.Statement.{statement}
+use Rattle.merged.proofs.last.put_whole.Tie as tie
 
 put-all-requires : tie.Need-put-all-requires
 put-all-requires c κs = search (wholes, needs)

@@ -1,9 +1,9 @@
 use borrow.Author.Needs.{needs}
-use Rattle.history.proofs.Pushing.{Sums, summing}
+use Rattle.merged.proofs.Summing.{Sums, summing}
 use Prim.Native.Nat.{_-_, _+_}
 use lib.ListN.{length}
-use Rattle.history.proofs.push.sum_lengths.Statement.{statement}
-use Rattle.history.proofs.push.sum_lengths.Tie as tie
+use Rattle.merged.proofs.lengths.sum_lengths.Statement.{statement}
+use Rattle.merged.proofs.lengths.sum_lengths.Tie as tie
 
 abbrev Inv-loop : tie.InvT-loop
 Inv-loop from to lens sum₀ k₀ sum k = Sums lens from to sum k

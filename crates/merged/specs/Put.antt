@@ -10,8 +10,8 @@ use Rattle.item.specs.declared.sink.Counts.{Counts}
 use Rattle.item.specs.Write.{writes, plusAll}
 use Rattle.cursors.specs.Cursor.{D, leftOf, itemsLeft, Walks}
 use Rattle.cursors.specs.Front.{Fronted}
-use Rattle.history.specs.declared.merged.Put.{Put}
-use Rattle.history.specs.declared.merged.Put.the-variants.{End, On}
+use Rattle.merged.specs.declared.put.Put.{Put}
+use Rattle.merged.specs.declared.put.Put.the-variants.{End, On}
 
 -- the counts leave room for so many items, of at most 40,000 bytes each
 pub record Roomy (items : ℕ) (c : Counts) : Type 0 where

@@ -22,10 +22,10 @@ use Rattle.cursors.specs.declared.lone.Lone.{Lone}
 use Rattle.cursors.specs.Cursor.{D, leftOf, itemsLeft, Within, Walks, ItemFits, NextIs, Bounded}
 use Rattle.cursors.specs.Front.{Fronted, line}
 use Rattle.cursors.specs.Lone.{LoneIs, passes}
-use Rattle.history.specs.declared.merged.Put.{Put}
-use Rattle.history.specs.declared.merged.Put.the-variants.{End, On}
-use Rattle.history.specs.Put.{Roomy, Puts, Wrote, PutSome, put-some, PutNext, put-end, put-on}
-use Rattle.history.proofs.Sizing.{sure-fits, sure-bytes}
+use Rattle.merged.specs.declared.put.Put.{Put}
+use Rattle.merged.specs.declared.put.Put.the-variants.{End, On}
+use Rattle.merged.specs.Put.{Roomy, Puts, Wrote, PutSome, put-some, PutNext, put-end, put-on}
+use Rattle.merged.proofs.Sizing.{sure-fits, sure-bytes}
 
 -- ---- put_lone and put_next
 

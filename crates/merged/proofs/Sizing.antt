@@ -28,7 +28,7 @@ use Rattle.walk.specs.Walk.{outputOf, wholeOut}
 use Rattle.walk.proofs.Walking.{whole-fits, whole-bytes}
 use Rattle.past.specs.Store.{total, cuts}
 use Rattle.cursors.specs.Cursor.{D}
-use Rattle.history.specs.Place.{IsFine}
+use Rattle.merged.specs.Place.{IsFine}
 use Rattle.item.proofs.Fronts.{drop-bytes, take-bytes}
 
 -- ---- one key

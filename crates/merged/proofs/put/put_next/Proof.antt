@@ -1,7 +1,7 @@
 use borrow.Author.Needs.{needs}
-use Rattle.history.proofs.Putting.{steps}
-use Rattle.history.proofs.merged.put_next.Statement.{statement}
-use Rattle.history.proofs.merged.put_next.Tie as tie
+use Rattle.merged.proofs.Putting.{steps}
+use Rattle.merged.proofs.put.put_next.Statement.{statement}
+use Rattle.merged.proofs.put.put_next.Tie as tie
 
 next-requires : tie.Need-next-requires
 next-requires c κs = search (steps, needs)

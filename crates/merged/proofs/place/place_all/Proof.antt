@@ -1,9 +1,9 @@
 use borrow.Author.Needs.{needs}
-use Rattle.history.proofs.Placing.{Placing, placing}
+use Rattle.merged.proofs.Placing.{Placing, placing}
 use Prim.Native.Nat.{_-_, _+_}
 use lib.ListN.{length}
-use Rattle.history.proofs.place.place_all.Statement.{statement}
-use Rattle.history.proofs.place.place_all.Tie as tie
+use Rattle.merged.proofs.place.place_all.Statement.{statement}
+use Rattle.merged.proofs.place.place_all.Tie as tie
 
 abbrev Inv-loop : tie.InvT-loop
 Inv-loop n lengths at₀ ends₀ sum₀ i₀ at ends sum i = Placing lengths n at ends sum i

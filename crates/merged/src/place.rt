@@ -1,6 +1,6 @@
 // Where the held deltas lie in the delta store.
-use crate::well_formed::wide;
-ghost use Rattle.history.specs.Place.{Summed, Placed};
+use crate::lengths::wide;
+ghost use Rattle.merged.specs.Place.{Summed, Placed};
 
 // Where each delta starts and ends.
 pub struct Places {
