@@ -15,13 +15,15 @@ pub enum Shape {
     Mixed,
     /// IPv4 origins, of which one in 65 comes at each step and stays: nothing cancels when deltas are merged.
     Growing,
+    /// The same in runs of 50 neighbours, as when a holder of addresses publishes all of theirs at once.
+    Together,
 }
 
 /// The inputs of one measurement: a snapshot for each step.
 #[derive(Clone, Copy)]
 pub struct Data {
     pub shape: Shape,
-    /// How many items a snapshot has; of `Growing` the last.
+    /// How many items a snapshot has; of `Growing` and `Together` the last.
     pub items: u32,
     /// One item in so many is touched at each step.
     pub every: u32,
@@ -59,6 +61,7 @@ impl Data {
                 (0..n / 25 * 4).for_each(|i| aspa(&mut out, i, 1 + i % 6 + u32::from(touched(&i))));
             }
             Shape::Growing => (0..n).filter(|i| i % 65 <= step).for_each(|i| origin4(&mut out, i)),
+            Shape::Together => (0..n).filter(|i| i / 50 % 65 <= step).for_each(|i| origin4(&mut out, i)),
         }
         out
     }

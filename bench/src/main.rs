@@ -63,8 +63,13 @@ fn race_all(folder: &Path, rounds: u32) {
     // 23, and not a divisor of 63: else d = 63 is a whole turn of the changes, and nothing is left of them
     let cancels = Data { shape: Shape::Origins4, items: SMALL, every: 23 };
     let grows = Data::new(Shape::Growing, 65_000);
-    let walks = [("most changes cancel", cancels), ("nothing cancels", grows)]
-        .map(|(name, data)| (name, tables::measure(&distances, data, rounds)));
+    let together = Data::new(Shape::Together, 65_000);
+    let walks = [
+        ("most changes cancel", cancels),
+        ("nothing cancels", grows),
+        ("nothing cancels, changes come in runs of 50", together),
+    ]
+    .map(|(name, data)| (name, tables::measure(&distances, data, rounds)));
     let growing = &walks[1].1;
     let goals = tables::goals(rounds, &sets, growing);
     let mut panels = Vec::new();

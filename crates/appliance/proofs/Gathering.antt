@@ -27,7 +27,7 @@ use Rattle.past.specs.declared.state.History.{History}
 use Rattle.past.specs.Store.{heldDeltas}
 use Rattle.past.specs.WellFormed.{wellFormed}
 use Rattle.past.specs.Query.{askAdmitted, passes, mergedLast, queryAt, queryOf, queryOut, queryAdmitted}
-use Rattle.history.specs.Place.{Stored}
+use Rattle.merged.specs.Place.{Stored}
 use Rattle.history.proofs.Asking.{formed-stored, query-within}
 use Rattle.appliance.specs.declared.reply.Reply.{Reply}
 use Rattle.appliance.specs.declared.reply.Replied.{Replied}

@@ -25,7 +25,7 @@ use Rattle.past.specs.declared.query.Answer.the-variants.{Refused, Served}
 use Rattle.past.specs.declared.query.Queried.{Queried}
 use Rattle.past.specs.Store.{heldDeltas}
 use Rattle.past.specs.Query.{askAdmitted, mergedLast, queryAt}
-use Rattle.history.specs.Place.{Stored}
+use Rattle.merged.specs.Place.{Stored}
 use Rattle.appliance.specs.declared.reply.Reply.{Reply}
 use Rattle.appliance.specs.declared.turn.Known.{Known}
 use Rattle.appliance.specs.declared.turn.Known.the-variants.{Nothing, Long, Stands}

@@ -16,7 +16,7 @@ use Rattle.delta.specs.Answer.{countsOf, outAfter}
 use Rattle.past.specs.declared.state.History.{History}
 use Rattle.past.specs.Store.{heldDeltas}
 use Rattle.past.specs.Query.{mergedLast, queryAt}
-use Rattle.history.specs.Place.{Stored}
+use Rattle.merged.specs.Place.{Stored}
 use Rattle.appliance.specs.declared.turn.Known.{Known}
 use Rattle.appliance.specs.declared.turn.Known.the-variants.{Nothing, Long, Stands}
 use Rattle.appliance.specs.declared.turn.Turn.{Turn}

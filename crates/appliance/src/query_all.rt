@@ -6,7 +6,7 @@ use crate::turn::reply_to;
 use delta::admit::Admitted;
 use delta::refusal::Refusal;
 use history::well_formed::well_formed;
-use history::well_formed::wide;
+use merged::lengths::wide;
 use number::two_at;
 use past::state::History;
 use serial::Serial;

@@ -7,3 +7,4 @@ pub mod Lining
 pub mod Leasting
 pub mod Gathering
 pub mod Stepping
+pub mod Passing

@@ -28,7 +28,7 @@ fn join(store: &[u8], held: Held, act: Act) -> Held
 }
 
 // Run p goes on at next.
-fn advance(
+pub(crate) fn advance(
     store: &[u8],
     at: &mut [usize; 64],
     ends: &[usize; 64],

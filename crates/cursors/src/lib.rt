@@ -4,6 +4,7 @@ pub mod front;
 pub mod fronts;
 pub mod gather;
 pub mod least;
+pub mod lone;
 pub mod lows;
 pub mod next;
 pub mod rank;

@@ -35,7 +35,7 @@ use Rattle.past.specs.declared.query.Queried.{Queried}
 use Rattle.past.specs.Store.{total, heldLengths, heldDeltas}
 use Rattle.past.specs.WellFormed.{isFine, isGood, every, goodKeep, inRange, goodSerial, goodStart, goodStores, goodHeld, wellFormed}
 use Rattle.past.specs.Query.{isServed, isSession, passes, askAdmitted, queryAdmitted, mergedLast, refusedWith, queryAt, queryOf, queryOut}
-use Rattle.history.specs.Place.{IsFine, Stored, lastMerged}
+use Rattle.merged.specs.Place.{IsFine, Stored, lastMerged}
 use Rattle.past.proofs.Served.{served-rule, rule-within}
 
 -- ---- the tests

@@ -1,6 +1,3 @@
-pub mod Sizing
-pub mod Putting
-pub mod Placing
 pub mod Asking
 pub mod Forming
 pub mod Replying

@@ -30,7 +30,8 @@ use Rattle.past.specs.Store.{total, heldSnapshot}
 use Rattle.payload.specs.Written.{writtenOver}
 use Rattle.past.specs.WellFormed.{wellFormed}
 use Rattle.past.specs.Update.{Step, refuse, first, unchanged, add, deltasWith, firstStep, admittedStep, stepFor, updateAt, updateOf, snapshotsAt, updateSnapshots, deltasAt, updateDeltas}
-use Rattle.history.specs.Push.{between, dropsOf, keptOf, grownOf, laid, Ranged, Pushes, Grows}
+use Rattle.merged.specs.Place.{between}
+use Rattle.history.specs.Push.{dropsOf, keptOf, grownOf, laid, Ranged, Pushes, Grows}
 use Rattle.history.specs.Stage.{updateAdmitted, Judged, Compares, Accepts, Renews, Extends, Does, Stores, firstOf, firstStore}
 use Rattle.past.proofs.Steps.{unchanged-step}
 use Rattle.history.proofs.Adding.{Formed, formed-is, admitted-short, renews-compares, stay-within, with-total, with-store, with-state}

@@ -2,4 +2,3 @@
 pub mod Check
 pub mod Push
 pub mod Stage
-pub mod Place

@@ -13,10 +13,7 @@ use Rattle.delta.specs.Answer.{differenceOf}
 use Rattle.past.specs.declared.state.History.{History}
 use Rattle.history.specs.declared.push.Kept.{Kept}
 use Rattle.past.specs.Store.{total, stateWith}
-
--- the lengths from `from` up to `to`
-abbrev pub between : List ℕ → ℕ → ℕ → List ℕ
-between lens from to = take (to - from) (drop from lens)
+use Rattle.merged.specs.Place.{between}
 
 -- one delta is dropped if n equals keep
 unfoldable pub dropsOf : History → ℕ

@@ -1,7 +1,7 @@
 // The full answer.
 use crate::well_formed::well_formed;
-use crate::well_formed::wide;
 use delta::refusal::Refusal;
+use merged::lengths::wide;
 use past::full::Full;
 use past::full::FullAnswer;
 use past::state::History;

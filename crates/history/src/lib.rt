@@ -1,9 +1,7 @@
 // The history of a server's snapshots and what it serves.
 pub mod create;
 pub mod full;
-pub mod merged;
 pub mod notify;
-pub mod place;
 pub mod push;
 pub mod query;
 pub mod stores;

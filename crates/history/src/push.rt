@@ -1,12 +1,14 @@
 // The lengths of the held deltas: the oldest is dropped if n equals keep, and one is added.
-use crate::well_formed::wide;
+use merged::lengths::sum_lengths;
+use merged::lengths::wide;
 use past::state::History;
 use serial::next;
 ghost use mathlib.Core.Path.{_≡_};
 ghost use Prim.Native.Nat.{_-_, _^_, _<_, _≤_};
 ghost use lib.ListN.{length};
 ghost use Rattle.past.specs.Store.{total};
-ghost use Rattle.history.specs.Push.{between, dropsOf, keptOf, lengthsWith, Ranged, Grows};
+ghost use Rattle.merged.specs.Place.{between};
+ghost use Rattle.history.specs.Push.{dropsOf, keptOf, lengthsWith, Ranged, Grows};
 
 // The deltas that stay once one is added.
 pub struct Kept {
@@ -34,20 +36,6 @@ fn drops(history: History) -> usize
         return 1;
     }
     0
-}
-
-// The sum of the lengths from `from` up to `to`.
-pub fn sum_lengths(lens: [u32; 64], from: usize, to: usize) -> usize
-    requires { ⌜ (from ≤ to) × (to ≤ 64) ⌝ }
-    ensures { λ r. ⌜ r ≡ total (between lens from to) ⌝ }
-{
-    let mut sum = 0;
-    let mut k = from;
-    while k < to {
-        sum += wide(lens[k]);
-        k += 1;
-    }
-    sum
 }
 
 // The deltas that stay.

@@ -1,10 +1,10 @@
 // The query of a serial.
-use crate::merged::merged_last;
 use crate::well_formed::well_formed;
-use crate::well_formed::wide;
 use delta::admit::Admitted;
 use delta::refusal::Refusal;
 use item::sink::Counts;
+use merged::last::merged_last;
+use merged::lengths::wide;
 use past::query::Answer;
 use past::query::Queried;
 use past::state::History;
@@ -19,7 +19,7 @@ ghost use lib.ListN.{length};
 ghost use Rattle.delta.specs.declared.admit.Admitted.the-variants.{Yes};
 ghost use Rattle.delta.specs.Answer.{outAfter};
 ghost use Rattle.past.specs.Store.{heldDeltas};
-ghost use Rattle.history.specs.Place.{Stored};
+ghost use Rattle.merged.specs.Place.{Stored};
 ghost use Rattle.past.specs.Query.{isServed, isSession, askAdmitted, queryAdmitted, mergedLast, refusedWith, queryAt, queryOf, queryOut};
 
 // A refused query: other numbers 0.

@@ -2,6 +2,7 @@
 use body::tag::Form;
 use delta::admit::within_limit;
 use field::verdict::Verdict;
+use merged::lengths::wide;
 use past::state::History;
 use verdict::check::check;
 ghost use mathlib.Core.Path.{_≡_};
@@ -9,13 +10,6 @@ ghost use Prim.Native.Nat.{_^_, _<_, _≤_};
 ghost use lib.ListN.{take};
 ghost use Rattle.past.specs.WellFormed.{isGood, goodKeep, inRange, goodSerial, goodStart, wellFormed};
 ghost use Rattle.history.specs.Check.{goodState, goodSnapshot, goodRuns, goodDeltas};
-
-// A held length as a place in a store.
-pub fn wide(n: u32) -> usize
-    ensures { λ r. ⌜ (r ≡ n) × (r < 2 ^ 32) ⌝ }
-{
-    n as usize
-}
 
 // Whether keep is 1 to 64.
 pub fn good_keep(keep: u32) -> bool

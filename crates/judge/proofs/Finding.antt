@@ -32,7 +32,7 @@ use Rattle.field.proofs.Encode.{field-front, rest-bytes}
 use Rattle.payload.specs.Content.{Bytes, entryOf, cellFor}
 use Rattle.payload.specs.Payload.{entries, encode, items}
 use Rattle.payload.proofs.Back.{says-back}
-use Rattle.payload.proofs.Faithful.{entries-end, entries-more, read}
+use Rattle.payload.proofs.Faithful.{run-back, entries-end, entries-more, read}
 use Rattle.item.specs.declared.place.Entry.{Entry}
 use Rattle.item.specs.declared.reading.Reading.the-variants.{Announced}
 use Rattle.item.specs.declared.reading.Read.{Read}
@@ -43,7 +43,6 @@ use Rattle.item.proofs.Fronts.{front-less, drop-bytes, take-bytes, cons-bytes}
 use Rattle.item.proofs.Heres.{here, cell, said, front-is}
 use Rattle.item.proofs.Heres as heres
 use Rattle.turn.specs.Seek.{Seeks}
-use Rattle.walk.proofs.Lengths.{body-bytes}
 use Rattle.heard.specs.Place.{typeAt, sizeAt, keyAt, Payload, Sized, v4, v6, key}
 use Rattle.heard.specs.Field.{recordField}
 use Rattle.judge.specs.declared.find.Found.{Found}
@@ -53,15 +52,6 @@ abbrev S : Type 0
 S = change.Snapshot Bytes Bytes
 
 -- ---- a snapshot's items and its bytes
-
-run-bytes : {k s : Bytes} → Run Snapshot k s → AllBytes s → encode Snapshot (items s) ≡ s
-unfolding encode run.cellBytes
-run-bytes done o = rw (entries-end Snapshot)
-run-bytes (more {s = s} tag b rest f g z l r) o =
-    let w : s ≡ field tag b ++ rest = field-front s tag b rest o f in
-    ap (encode Snapshot) (entries-more Snapshot s tag b rest f)
-    ∙ ap₂ (λ (x : Cell) (y : Bytes). field (x .tag) (x .body) ++ y) (says-back Snapshot tag b (body-bytes s tag b rest o w) g) (run-bytes r (rest-bytes s tag b rest o w))
-    ∙ sym w
 
 pub encode-append : (a b : S) → encode Snapshot (a ++ b) ≡ encode Snapshot a ++ encode Snapshot b
 unfolding encode run.cellBytes
@@ -75,7 +65,7 @@ module _ (a : Bytes) (from : ℕ) (r : Ready Announced a from) where
   sorted-from = read Snapshot (r .good .run) .sorted
 
   pub bytes-from : ((i : ℕ) → Fits w8 (getD a i 0)) → encode Snapshot (items (drop from a)) ≡ drop from a
-  bytes-from o = run-bytes (r .good .run) (drop-bytes from a (λ i. o i .fits))
+  bytes-from o = run-back Snapshot (r .good .run) (drop-bytes from a (λ i. o i .fits))
 
 -- the bytes of items passed
 pub passed-bytes : (a : Bytes) (from at : ℕ) → Ready Announced a from → Ready Announced a at → from ≤ at → ((i : ℕ) → Fits w8 (getD a i 0)) →

@@ -30,9 +30,8 @@ use Rattle.payload.specs.Valid.{ValidValue, origin, routerKey, aspa}
 use Rattle.payload.specs.Payload.{entries, encode, items}
 use Rattle.payload.proofs.Back.{says-back}
 use Rattle.payload.proofs.Closed.{walk-all}
-use Rattle.payload.proofs.Faithful.{entries-end, entries-more}
+use Rattle.payload.proofs.Faithful.{body-bytes, entries-end, entries-more}
 use Rattle.item.proofs.Fronts.{drop-bytes, take-bytes, cons-bytes}
-use Rattle.walk.proofs.Lengths.{body-bytes}
 use Rattle.message.specs.declared.version.Version.{Version}
 use Rattle.message.specs.Version.{versionNumber, speaks, timesIn, endLength}
 use Rattle.message.specs.Message.{Message, serialNotify, serialQuery, cacheResponse, ipv4Prefix, ipv6Prefix, endOfData, cacheReset, routerKey as routerKeyMessage, errorReport}

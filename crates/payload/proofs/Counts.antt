@@ -40,7 +40,7 @@ agree-announced k (announce n) = rw (last-digit k 1 (inl refl))
 agree-announced k (withdraw p) = rw (last-digit k 2 (inr (inl refl)))
 agree-announced k (update p n) = rw (last-digit k 3 (inr (inr refl)))
 
-agree-withdrawn : (k : ℕ) (c : Change Bytes) → cond (isWithdrawn (k * 16 + digit c)) 1 0 ≡ withdraws c
+pub agree-withdrawn : (k : ℕ) (c : Change Bytes) → cond (isWithdrawn (k * 16 + digit c)) 1 0 ≡ withdraws c
 agree-withdrawn k (announce n) = rw (last-digit k 1 (inl refl))
 agree-withdrawn k (withdraw p) = rw (last-digit k 2 (inr (inl refl)))
 agree-withdrawn k (update p n) = rw (last-digit k 3 (inr (inr refl)))

@@ -29,7 +29,7 @@ use Rattle.payload.proofs.Back.{says-valid, says-back}
 use Rattle.payload.proofs.Forth.{Good, good}
 
 -- the body of a field of bytes is of bytes
-body-bytes : (s : Bytes) (tag : ℕ) (b rest : Bytes) → AllBytes s → s ≡ field tag b ++ rest → AllBytes b
+pub body-bytes : (s : Bytes) (tag : ℕ) (b rest : Bytes) → AllBytes s → s ≡ field tag b ++ rest → AllBytes b
 unfolding field
 body-bytes s tag b rest o e i = go (decLe (length b) i)
   where
@@ -69,6 +69,11 @@ cells-back form (more {s = s} tag b rest f g z l r) o =
     rw (entries-more form s tag b rest f, cells-more s tag b rest f)
     (ap₂ (λ (c : Cell) (cs : List Cell). c ∷ cs) (says-back form tag b (body-bytes s tag b rest o w) g)
     (cells-back form r (rest-bytes s tag b rest o w)))
+
+-- so its bytes are those of what it says
+pub run-back : (form : Form) {k s : Bytes} → Run form k s → AllBytes s → encode form (entries form s) ≡ s
+unfolding encode
+run-back form r o = ap run.cellBytes (cells-back form r o) ∙ encode-cells form r o
 
 -- a valid key stands above the one that stands before each run
 lowest-value : {k v : Bytes} → ValidValue k v → bytes (0 ∷ []) k ≡ Less
@@ -117,7 +122,7 @@ unfolding encode entries
 faithful form =
     record {
       map-of = λ s e. let r = read form (fine-run form s e) in record { sorted = r .sorted; valid = r .valid };
-      bytes-back = λ s o e. ap run.cellBytes (cells-back form (fine-run form s e) o) ∙ encode-cells form (fine-run form s e) o;
+      bytes-back = λ s o e. run-back form (fine-run form s e) o;
       good-bytes = λ xs m. ascent-fine form (map (cellFor form) xs) (ascent-start form xs m);
       map-back = λ xs m. ap (map (entryOf form)) (cells-encode (map (cellFor form) xs)) ∙ said form xs (m .valid);
     }

@@ -29,9 +29,8 @@ use Rattle.field.proofs.Encode.{field-front, rest-bytes}
 use Rattle.field.proofs.Walk.{good-start}
 use Rattle.payload.specs.Content.{Bytes, Content}
 use Rattle.payload.specs.Payload.{entries, items}
-use Rattle.payload.proofs.Faithful.{entries-end, entries-more}
+use Rattle.payload.proofs.Faithful.{body-bytes, entries-end, entries-more}
 use Rattle.item.proofs.Fronts.{take-bytes, cons-bytes}
-use Rattle.walk.proofs.Lengths.{body-bytes}
 
 kind-low : (t : Tag) → kindNumber t < 256
 kind-low Unknown = omega arith

@@ -53,7 +53,7 @@ use Rattle.past.specs.Promise.{serialIn, current, queriedIn, writtenIn, Promise
 use Rattle.past.proofs.Lists.{all-map}
 use Rattle.past.proofs.Runs.{promise}
 use Rattle.past.proofs.Given.{given-good, all-carried, good-current}
-use Rattle.history.specs.Place.{IsFine}
+use Rattle.merged.specs.Place.{IsFine}
 use Rattle.history.proofs.Asking.{formed-stored}
 use Rattle.wire.specs.declared.tally.Tally.{Tally}
 use Rattle.wire.specs.declared.frame.Frame.{Frame}

@@ -1,3 +1,4 @@
 pub mod Turning
 pub mod Skipping
 pub mod Seeking
+pub mod Stretching

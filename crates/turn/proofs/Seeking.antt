@@ -78,7 +78,7 @@ pub ruleset sizes = (size-origin)
 pub seek-start : (s : Bytes) (from bound : ℕ) → Ready Announced s from → Seeks s from bound from 0
 seek-start s from bound r = record { passed = []; split = refl; low = tt; number = refl; on = omega arith; few-on = omega arith; ready = r }
 
-all-append : {A : Type 0} (P : A → Type 0) (a b : List A) → All P a → All P b → All P (a ++ b)
+pub all-append : {A : Type 0} (P : A → Type 0) (a b : List A) → All P a → All P b → All P (a ++ b)
 all-append P [] b x y = y
 all-append P (z ∷ a) b x y = (x .0, all-append P a b (x .1) y)
 

@@ -3,3 +3,4 @@ pub mod Left
 pub mod Turn
 pub mod Skip
 pub mod Seek
+pub mod Stretch

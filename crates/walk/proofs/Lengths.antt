@@ -29,6 +29,7 @@ use Rattle.field.proofs.Encode.{field-front, rest-bytes}
 use Rattle.field.proofs.Run.{cells-end, cells-more}
 use Rattle.payload.specs.Content.{Bytes, valuesFor, cellFor, entryOf}
 use Rattle.payload.proofs.Back.{says-back}
+use Rattle.payload.proofs.Faithful.{body-bytes}
 use Rattle.item.specs.declared.reading.Reading.{Reading}
 use Rattle.item.specs.declared.reading.Reading.the-variants.{Withdrawn, Announced, Changes}
 use Rattle.item.specs.declared.sink.Counts.{Counts}
@@ -122,14 +123,6 @@ module _ (form : Form) where
           (omega (arith, k, cons-length form y (merge bytes bytes (x ∷ d) e), cons-length form y e))
 
 -- ---- a run of bytes has the length of what it says
-
-pub body-bytes : (s : Bytes) (tag : ℕ) (b rest : Bytes) → AllBytes s → s ≡ field tag b ++ rest → AllBytes b
-unfolding field
-body-bytes s tag b rest bs e i =
-    elim (decLt i (length b)) [
-      | yes h ↦ rw (← List·getD-append b rest 0 i h) (rw e at (bs (suc (suc (suc i)))))
-      | no h ↦ rw (List·getD-eq-default b 0 {n = i} (omega arith)) (omega arith)
-    ]
 
 same-body : (reading : Reading) (form : Form) (c : Cell) → cellAs form (itemAs reading c) .body ≡ cellFor (formOf reading) (entryOf (formOf reading) c) .body
 same-body Withdrawn form c = refl

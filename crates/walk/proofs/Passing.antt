@@ -29,6 +29,7 @@ use Rattle.payload.specs.Content.{Bytes}
 use Rattle.payload.specs.Payload.{items, changes}
 use Rattle.payload.specs.Count.{announces, withdraws, sumOf}
 use Rattle.payload.proofs.Back.{says-back}
+use Rattle.payload.proofs.Faithful.{body-bytes}
 use Rattle.item.specs.declared.sink.Counts.{Counts}
 use Rattle.item.specs.declared.reading.Reading.{Reading}
 use Rattle.item.specs.declared.reading.Reading.the-variants.{Announced, Changes}
@@ -44,7 +45,6 @@ use Rattle.turn.specs.Seek.{Bounds, Seeks}
 use Rattle.turn.specs.Skip.{Skips}
 use Rattle.turn.specs.Left.{leftOf}
 use Rattle.walk.specs.Walk.{Stands, Wrote}
-use Rattle.walk.proofs.Lengths.{body-bytes}
 use Rattle.walk.proofs.Walking.{plus-nil, writes-nil, writes-append, walk-left-first}
 
 abbrev D : Type 0

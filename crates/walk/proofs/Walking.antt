@@ -74,21 +74,21 @@ sum-append : (g : Change Bytes → ℕ) (e f : D) → sumOf g (e ++ f) ≡ sumOf
 sum-append g [] f = omega arith
 sum-append g (x ∷ e) f = omega (arith, sum-append g e f)
 
-plus-append : (form : Form) (c : Counts) (e f : D) → plusAll form c (e ++ f) ≡ plusAll form (plusAll form c e) f
+pub plus-append : (form : Form) (c : Counts) (e f : D) → plusAll form c (e ++ f) ≡ plusAll form (plusAll form c e) f
 plus-append form c e f =
     counts-path (omega (arith, ap length (writes-append form e f), length-append (writes form e) (writes form f)))
     (omega (arith, sum-append announces e f)) (omega (arith, sum-append withdraws e f))
 
-sets-writes : (form : Form) (o : Bytes) (i : ℕ) (e f : D) → sets o i (writes form (e ++ f)) ≡ sets (sets o i (writes form e)) (i + length (writes form e)) (writes form f)
+pub sets-writes : (form : Form) (o : Bytes) (i : ℕ) (e f : D) → sets o i (writes form (e ++ f)) ≡ sets (sets o i (writes form e)) (i + length (writes form e)) (writes form f)
 sets-writes form o i e f = ap (sets o i) (writes-append form e f) ∙ sets-append (writes form e) (writes form f) o i
 
 -- one item alone
 module _ (form : Form) (c : Counts) (x : Item Bytes (Change Bytes)) where
-  plus-one : plusItem form c x ≡ plusAll form c (x ∷ [])
+  pub plus-one : plusItem form c x ≡ plusAll form c (x ∷ [])
   unfolding cellBytes
   plus-one = counts-path (omega (arith, length-append (fieldAs form x) [])) (omega arith) (omega arith)
 
-  writes-one : fieldAs form x ≡ writes form (x ∷ [])
+  pub writes-one : fieldAs form x ≡ writes form (x ∷ [])
   unfolding cellBytes
   writes-one = sym (append-nil (fieldAs form x))
 
@@ -136,7 +136,7 @@ module _ (form : Form) (c : Counts) (o : Bytes) (d : D) (c₀ : Counts) (o₀ : 
   none-bytes e = writes-nil form o (c .len) ∙ ap (λ (x : D). sets o (c .len) (writes form x)) (sym e) ∙ l .laid
 
   -- behind some items that were written
-  left-some : (e f : D) → d ≡ e ++ f → (r : Counts) (p : Bytes) → r ≡ plusAll form c e → p ≡ sets o (c .len) (writes form e) →
+  pub left-some : (e f : D) → d ≡ e ++ f → (r : Counts) (p : Bytes) → r ≡ plusAll form c e → p ≡ sets o (c .len) (writes form e) →
       Left-over form r p f c₀ o₀ d₀
   left-some e f q r p er ep = record {
     counts = rw er (sym (plus-append form c e f) ∙ ap (plusAll form c) (sym q) ∙ l .counts);

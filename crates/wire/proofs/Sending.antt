@@ -41,11 +41,11 @@ use Rattle.past.proofs.Lists.{all-map}
 use Rattle.change.proofs.Chain.{all-drop}
 use Rattle.change.specs.History.{lastN}
 use Rattle.cursors.specs.Cursor.{leftOf, runs}
-use Rattle.history.specs.declared.place.Places.{Places}
-use Rattle.history.specs.Place.{IsFine, Placed, Stored, lastMerged}
-use Rattle.history.specs.Push.{between}
+use Rattle.merged.specs.declared.place.Places.{Places}
+use Rattle.merged.specs.Place.{IsFine, Placed, Stored, lastMerged}
+use Rattle.merged.specs.Place.{between}
 use Rattle.history.proofs.Asking.{fine-true, formed-stored, formed-serial}
-use Rattle.history.proofs.Placing.{stored-summed, last-ordered, last-few, last-most, last-bounded, last-is, left-is}
+use Rattle.merged.proofs.Placing.{stored-summed, last-ordered, last-few, last-most, last-bounded, last-is, left-is}
 use Rattle.wire.specs.declared.tally.Tally.{Tally}
 use Rattle.wire.specs.declared.frame.Frame.{Frame}
 use Rattle.wire.specs.declared.sent.Reply.the-variants.{Refused, Data, Reset, Report}

@@ -10,7 +10,7 @@ use crate::tally::put_item;
 use cursors::fronts::line_up;
 use cursors::next::Step;
 use cursors::next::next;
-use history::place::Places;
+use merged::place::Places;
 use message::version::Version;
 ghost use mathlib.Core.Path.{_≡_};
 ghost use Prim.Native.Nat.{_≤_};

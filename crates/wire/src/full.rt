@@ -7,7 +7,7 @@ use crate::sent::refused;
 use crate::snapshot::put_snapshot;
 use delta::refusal::Refusal;
 use history::well_formed::well_formed;
-use history::well_formed::wide;
+use merged::lengths::wide;
 use message::version::Version;
 use past::state::History;
 use serial::timing::Timing;

@@ -1,0 +1,4 @@
+pub mod Summing
+pub mod Sizing
+pub mod Putting
+pub mod Placing
