@@ -8,7 +8,7 @@ use native.Mathlib.Decide.{ℕ-discrete}
 use mir.Syntax.{w32, w64}
 use mir.Val.{Fits}
 use lib.Dec.{leb, eqb}
-use lib.ListN.{length, getD, set, take, drop, replicate, length-set, length-take, length-drop, length-append, length-replicate, getD-replicate}
+use lib.ListN.{length, getD, set, take, drop, replicate, length-set, length-drop, length-append, length-replicate, getD-replicate}
 use lib.Seq.{take-at, getD-drop, drop-drop, getD-set-same, getD-set-other, set-at, length-take-le}
 use borrow.Author.Tests.{leb-true, eqb-true}
 use Rattle.serial.specs.declared.Serial.{Serial}
@@ -27,14 +27,13 @@ use Rattle.past.specs.declared.state.History.{History}
 use Rattle.past.specs.Store.{heldDeltas}
 use Rattle.past.specs.WellFormed.{wellFormed}
 use Rattle.past.specs.Query.{askAdmitted, passes, mergedLast, queryAt, queryOf, queryOut, queryAdmitted}
-use Rattle.history.specs.Place.{Stored}
 use Rattle.history.proofs.Asking.{formed-stored, query-within}
 use Rattle.appliance.specs.declared.reply.Reply.{Reply}
 use Rattle.appliance.specs.declared.reply.Replied.{Replied}
 use Rattle.appliance.specs.declared.turn.Known.{Known}
 use Rattle.appliance.specs.declared.turn.Known.the-variants.{Nothing}
 use Rattle.appliance.specs.declared.turn.Turn.{Turn}
-use Rattle.appliance.specs.QueryAll.{Asked, askedIn, askedFirst, askedBy, goodList, listAdmitted, replyOf, usedBy, Laid, answerAt, outFrom, answered, unused, laidOf, noReply, padded, refusedCall, queryAllOf, queryAllOut}
+use Rattle.appliance.specs.QueryAll.{Asked, askedIn, askedFirst, askedBy, goodList, listAdmitted, replyOf, usedBy, Laid, answered, laidOf, noReply, padded, refusedCall, queryAllOf, queryAllOut}
 use Rattle.appliance.specs.Turn.{Remembers, Takes, TurnIs}
 use Rattle.appliance.proofs.Turning.{never, knows-nothing, knows-still}
 

@@ -7,8 +7,8 @@ use native.Mathlib.Omega.{arith}
 use mir.Syntax.{w64}
 use mir.Val.{Fits}
 use lib.Dec.{leb}
-use lib.ListN.{length, take, drop, length-take, length-drop, take-append-drop, drop-of-length-le}
-use lib.Seq.{sets, sets-eq, length-sets, take-all, take-at, drop-at, drop-drop, take-append-seam, length-take-le}
+use lib.ListN.{length, take, drop, length-drop, take-append-drop, drop-of-length-le}
+use lib.Seq.{sets, sets-eq, length-sets, take-all, drop-at, drop-drop, take-append-seam, length-take-le}
 use borrow.Author.Tests.{leb-true, leb-false, le-leb, lt-leb}
 use Rattle.serial.specs.declared.Serial.{Serial}
 use Rattle.serial.specs.declared.Session.{Session}
@@ -30,7 +30,7 @@ use Rattle.appliance.specs.declared.reply.Reply.{Reply}
 use Rattle.appliance.specs.declared.turn.Known.{Known}
 use Rattle.appliance.specs.declared.turn.Known.the-variants.{Nothing, Long, Stands}
 use Rattle.appliance.specs.declared.turn.Turn.{Turn}
-use Rattle.appliance.specs.QueryAll.{servedAt, refusedWith}
+use Rattle.appliance.specs.QueryAll.{servedAt}
 use Rattle.appliance.specs.Turn.{Apart, Standing, Remembers, Takes, TurnIs, refusedTurn, Shares, sharedTurn, sharedOut}
 use Rattle.appliance.proofs.Repeating.{take-sets, part-same}
 

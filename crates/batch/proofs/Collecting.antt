@@ -1,17 +1,17 @@
 -- Laws of the walk that collects messages.
-use Prim.Native.Nat.{ℕ, zero, suc, _+_, _*_, _-_, _%_, _^_, _≤_, _<_}
+use Prim.Native.Nat.{ℕ, _+_, _*_, _%_, _^_, _≤_, _<_}
 use mathlib.Core.Path.{_≡_, refl, sym, ap, _∙_, subst}
 use mathlib.Core.List.{List, [], _∷_, _++_, append-assoc, append-nil}
-use mathlib.Core.Bool.{Bool, true, false, not, cond, _&&_}
+use mathlib.Core.Bool.{Bool, true, false, not}
 use native.Mathlib.Omega.{arith}
 use native.Mathlib.Numerals.{add-one}
 use native.Mathlib.Decide.{ℕ-discrete, decLe}
 use mir.Syntax.{w8, w64}
 use mir.Val.{Fits}
 use lib.Dec.{eqb, leb}
-use lib.ListN.{length, getD, take, drop, set, length-set, length-take}
+use lib.ListN.{length, getD, take, set, length-set}
 use lib.Seq.{take-all, take-suc-set, getD-set-same, getD-set-other, getD-take, length-take-le}
-use borrow.Author.Tests.{eqb-true, eqb-false, eq-eqb, ne-eqb, leb-false, lt-leb, le-leb}
+use borrow.Author.Tests.{eqb-true, eq-eqb, ne-eqb, leb-false, lt-leb, le-leb}
 use Rattle.number.specs.Number.{wordAt}
 use Rattle.payload.specs.Content.{Bytes}
 use Rattle.item.specs.Front.{frontKey}
@@ -19,18 +19,17 @@ use Rattle.heard.specs.Place.{Messages, done, more, Payload, typeAt, sizeAt, ke
 use Rattle.heard.specs.Compare.{Of, Alike, FrontOf}
 use Rattle.heard.proofs.Comparing.{front-before, front-behind, six-less, six-greater}
 use Rattle.batch.specs.declared.collect.Part.{Part}
-use Rattle.batch.specs.declared.next.Batch.{Batch}
 use Rattle.sorting.specs.Sorted.{sorted}
 use Rattle.sorting.specs.Sort.{Held, SortedIs, FirstSorted}
 use Rattle.batch.specs.Next.{isAbove, left, NextIs}
-use Rattle.batch.specs.Keep.{only, isUpTo, isWanted, frontOr, wordOr, In, Bound, none, one, Told, Fronts, Sifted, Trims, Trimmed, kept, cut, Meets, MeetsBehind, Passed, Takes, oneMore, Taken, TakesTwo, TakenTwo, TopIs, all, Holds, WalkedTo, walked, Collected}
+use Rattle.batch.specs.Keep.{only, isUpTo, isWanted, frontOr, wordOr, Bound, none, one, Told, Fronts, Sifted, Trims, Trimmed, kept, cut, Meets, MeetsBehind, Passed, Takes, oneMore, Taken, TakesTwo, TakenTwo, TopIs, all, Holds, WalkedTo, walked, Collected}
 use Rattle.batch.specs.Keep as keep
-use Rattle.batch.specs.Map.{Hint, Hinted, Stretch, Chunk, Marked, isChunk, Tops, Clears, Clear}
+use Rattle.batch.specs.Map.{Stretch, Chunk, Marked, isChunk, Tops, Clears, Clear}
 use Rattle.batch.specs.Map as map
 use Rattle.sorting.proofs.Precede.{true≢false, not-above-trans}
-use Rattle.sorting.proofs.Sorting.{All, all-at, all-weak, sorted-mid, length-sorted}
+use Rattle.sorting.proofs.Sorting.{All, sorted-mid, length-sorted}
 use Rattle.batch.proofs.Sorting.{Growing, all-in, only-sorted}
-use Rattle.batch.proofs.Keeping.{size-some, messages-ahead, messages-from, messages-grow, messages-good, messages-append, messages-same, Sub, keep-one, sub-none, sub-first, sub-behind, sub-past, all-sub, growing-sub, in-all, in-append, wanted-is, wanted-all, wanted-not, wanted-past, messages-split, only-in, only-out, only-append, only-clear, upto-all, upto-self, only-length, only-same, above-only, fall-top, lower-again, part-first, part-shorter}
+use Rattle.batch.proofs.Keeping.{size-some, messages-ahead, messages-from, messages-grow, messages-good, messages-append, messages-same, Sub, keep-one, sub-none, sub-first, sub-behind, sub-past, all-sub, growing-sub, in-all, wanted-is, wanted-all, wanted-not, wanted-past, messages-split, only-in, only-out, only-append, only-clear, upto-self, only-length, only-same, above-only, fall-top, lower-again, part-first, part-shorter}
 
 -- ---- is_above, is_up_to, is_wanted
 

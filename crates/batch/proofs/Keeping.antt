@@ -1,22 +1,21 @@
 -- Laws of what is kept: the messages behind `low` and not behind `top`.
-use Prim.Native.Nat.{ℕ, zero, suc, _+_, _-_, _≤_, _<_}
+use Prim.Native.Nat.{ℕ, zero, suc, _≤_, _<_}
 use mathlib.Core.Path.{_≡_, refl, sym, ap, _∙_}
 use mathlib.Core.List.{List, [], _∷_, _++_}
 use mathlib.Core.Bool.{Bool, true, false, not, cond, _&&_}
 use native.Mathlib.Omega.{arith}
 use native.Mathlib.Decide.{ℕ-discrete}
-use lib.Dec.{eqb}
-use lib.ListN.{length, getD, take, drop, length-append}
-use borrow.Author.Tests.{eqb-true, eqb-false, eq-eqb, ne-eqb, not-true}
+use lib.ListN.{length, getD, take}
+use borrow.Author.Tests.{ne-eqb, not-true}
 use Rattle.payload.specs.Content.{Bytes}
 use Rattle.heard.specs.Place.{Messages, done, more, Payload, Sized, v4, v6, key, sizeAt, precedes}
 use Rattle.sorting.specs.Sorted.{sorted}
 use Rattle.batch.specs.Next.{isAbove, above, left}
-use Rattle.batch.specs.Keep.{only, isUpTo, isWanted, In, here, there, Bound, none, one, TopIs, all}
+use Rattle.batch.specs.Keep.{only, isUpTo, isWanted, In, here, there, one, TopIs}
 use Rattle.batch.specs.Keep as keep
 use Rattle.batch.specs.Map.{Stretch}
 use Rattle.sorting.proofs.Precede.{true≢false, not-above-trans, never-self}
-use Rattle.sorting.proofs.Sorting.{All, nil, cons, all-at, all-sorted, all-weak, climbing-sorted, sorted-fixed, length-sorted}
+use Rattle.sorting.proofs.Sorting.{All, nil, cons, all-at, all-sorted, all-weak, climbing-sorted, sorted-fixed}
 use Rattle.batch.proofs.Sorting.{all-only, all-in, only-sorted, Rising, rising-only, rising-sorted, upto-take, upto-first, only-shorter, Growing, flat, up}
 
 -- ---- messages by their offsets

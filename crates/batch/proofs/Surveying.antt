@@ -1,5 +1,5 @@
 -- Laws of the survey.
-use Prim.Native.Nat.{ℕ, suc, _+_, _*_, _-_, _/_, _≤_, _<_}
+use Prim.Native.Nat.{ℕ, _+_, _*_, _-_, _/_, _≤_, _<_}
 use mathlib.Core.Path.{_≡_, refl, sym, ap, _∙_}
 use mathlib.Core.List.{List, [], _∷_, _++_}
 use mathlib.Core.Bool.{false}
@@ -8,17 +8,16 @@ use native.Mathlib.Numerals.{add-one}
 use native.Mathlib.Decide.{ℕ-discrete, decLe}
 use mir.Syntax.{w64}
 use mir.Val.{Fits}
-use lib.ListN.{length, getD, take, drop, set, replicate, length-set, length-replicate, getD-replicate}
+use lib.ListN.{length, getD, take, set, length-set}
 use lib.Seq.{take-suc-set, getD-set-same, getD-set-other, getD-take, getD-drop, length-take-le}
 use Rattle.payload.specs.Content.{Bytes}
 use Rattle.heard.specs.Place.{Messages, done, more, Payload, sizeAt, precedes}
 use Rattle.batch.specs.declared.survey.Filled.{Filled}
 use Rattle.sorting.specs.Sorted.{sorted}
 use Rattle.sorting.specs.Sort.{Held, FirstSorted}
-use Rattle.batch.specs.Keep.{In}
-use Rattle.batch.specs.Map.{Hint, HintAt, Hinted, Chunk, Marked, Stretch, FilledIs, Among, Drew, Draws, Drawn, CutAt, Noted, Starts, Charted, Surveys, Surveyed, Lines, Mapped}
+use Rattle.batch.specs.Map.{Hint, HintAt, Hinted, Chunk, Stretch, FilledIs, Among, Drew, Draws, Drawn, CutAt, Noted, Starts, Charted, Surveys, Surveyed, Lines}
 use Rattle.batch.specs.Map as map
-use Rattle.sorting.proofs.Sorting.{All, cons, climbing-at, all-at, all-by, all-weak, all-sorted, Climbing, flat, up, climbing-sorted, length-sorted}
+use Rattle.sorting.proofs.Sorting.{All, cons, climbing-at, all-at, all-by, all-sorted, Climbing, flat, up, climbing-sorted, length-sorted}
 use Rattle.batch.proofs.Sorting.{in-sorted, all-in}
 use Rattle.sorting.proofs.Precede.{never-self}
 use Rattle.batch.proofs.Keeping.{size-some, messages-ahead, messages-good, messages-append, Halves, messages-halves, messages-same, in-all, in-append, in-behind}
@@ -468,10 +467,3 @@ module _ (s : Bytes) (stop : ℕ) (l : List ℕ) (held : ℕ) (t : Lines s stop 
     }
 
 pub ruleset lining = (line-few, line-held, line-long, line-done)
-
--- with nothing known there is nothing to prove
-pub marked-none : (s : Bytes) (stop : ℕ) → Marked s stop (replicate 560 0)
-marked-none s stop = record { long = length-replicate {A = ℕ} 560 0; each = λ c h n. absurd (n (getD-replicate {A = ℕ} 560 (5 * c) 0 0 (omega arith))) }
-
-pub hinted-none : (s : Bytes) (stop : ℕ) → Hinted s stop (replicate 962 0)
-hinted-none s stop = record { long = length-replicate {A = ℕ} 962 0; each = λ k h. map.none (getD-replicate {A = ℕ} 962 k 0 0 (omega arith)) }

@@ -13,17 +13,9 @@ use Rattle.change.specs.Merge.{mergeAt}
 use Rattle.change.specs.Application.{applyAt, fitsAt}
 
 module _ {W : Type 0} {cmp : W → W → Ordering} (P : TotalOrder cmp) where
-  -- equal values are no change, others are
+  -- equal values are no change
   pub replace-same : (p n : W) → p ≡ n → replace cmp p n ≡ none
   replace-same p n e = rw (e, P .self n)
-
-  pub replace-other : (p n : W) → ¬ (p ≡ n) → replace cmp p n ≡ some (update p n)
-  replace-other p n h = go (cmp p n) refl
-    where
-      go : (o : Ordering) → cmp p n ≡ o → unlessEqual o (update p n) ≡ some (update p n)
-      go Less e = refl
-      go Equal e = absurd (h (P .same p n e))
-      go Greater e = refl
 
   pub merge-none : (c : Option (Change W)) → mergeAt cmp none c ≡ c
   merge-none none = refl

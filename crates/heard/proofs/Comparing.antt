@@ -1,15 +1,13 @@
 -- Laws of the comparisons of two messages.
-use Prim.Native.Nat.{ℕ, zero, suc, _+_, _-_, _*_, _/_, _%_, _<_, _≤_}
+use Prim.Native.Nat.{ℕ, zero, suc, _+_, _*_, _/_, _%_, _<_, _≤_}
 use mathlib.Core.Path.{_≡_, refl, sym, ap, _∙_}
-use mathlib.Core.List.{List, [], _∷_, _++_}
+use mathlib.Core.List.{[], _∷_, _++_}
 use mathlib.Core.Bool.{Bool, true, false, cond}
 use native.Mathlib.Omega.{arith}
 use native.Mathlib.Decide.{ℕ-discrete, decLe}
 use borrow.Author.Tests.{eq-eqb, ne-eqb}
-use mir.Syntax.{w8, w64}
-use mir.Val.{Fits}
 use lib.Dec.{eqb, ltb}
-use lib.ListN.{length, getD, take, drop, replicate, drop-of-length-le}
+use lib.ListN.{length, getD, drop, replicate, drop-of-length-le}
 use lib.Seq.{getD-drop, drop-drop}
 use Rattle.order.specs.declared.Ordering.{Ordering}
 use Rattle.order.specs.declared.Ordering.the-variants.{Less, Equal, Greater}
@@ -208,9 +206,6 @@ module _ (k l : Bytes) (o : Octets k) (p : Octets l) where
 -- ---- two messages whose fronts are the same
 
 module _ (s : Bytes) (o : Octets s) (x y : ℕ) where
-  abbrev Decides : Ordering → Type 0
-  Decides r = r ≡ bytes (keyAt s x) (keyAt s y)
-
   -- prefixes of one family: the words in the middle, then the last ones
   prefixes : length (keyAt s x) ≡ 24 → length (keyAt s y) ≡ 24 → frontKey (keyAt s x) ≡ frontKey (keyAt s y)
       → bytes (keyAt s x) (keyAt s y) ≡ orElse (number (wordAt (keyAt s x) 8) (wordAt (keyAt s y) 8)) (number (wordAt (keyAt s x) 16) (wordAt (keyAt s y) 16))

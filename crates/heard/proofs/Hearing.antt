@@ -1,19 +1,17 @@
 -- Laws of the pass over an answer.
 use Prim.Native.Nat.{ℕ, zero, suc, _+_, _-_, _*_, _/_, _%_, _^_, _<_, _≤_}
-use mathlib.Core.Path.{_≡_, refl, sym, ap, ap₂, _∙_}
-use mathlib.Core.List.{List, [], _∷_, _++_, map, append-assoc}
-use mathlib.Core.Bool.{Bool, true, false, not, cond, _&&_, false≢true}
+use mathlib.Core.Path.{_≡_, refl, sym, ap, _∙_}
+use mathlib.Core.List.{List, [], _∷_, _++_, map}
+use mathlib.Core.Bool.{Bool, true, false, not, cond, _&&_}
 use mathlib.Core.Option.{Option, none, some}
 use native.Mathlib.Omega.{arith}
-use borrow.Author.Tests.{eq-eqb, ne-eqb, eqb-true, le-leb, lt-leb, leb-true, not-true, not-false}
+use borrow.Author.Tests.{eq-eqb, ne-eqb, eqb-true, le-leb, lt-leb, not-true, not-false}
 use lib.Dec.{leb, eqb}
-use lib.ListN.{length, getD, take, drop, replicate, length-drop, drop-of-length-le}
+use lib.ListN.{length, getD, drop, replicate, length-drop, drop-of-length-le}
 use Rattle.number.specs.Bytes.{part}
-use lib.Seq.{getD-drop, drop-drop, drop-cons}
-use Rattle.serial.specs.declared.Session.{Session}
-use Rattle.serial.specs.declared.Serial.{Serial}
+use lib.Seq.{drop-drop, drop-cons}
 use Rattle.serial.specs.declared.timing.Timing.{Timing}
-use Rattle.number.specs.Number.{two, twoAt, four, fourAt, wordAt}
+use Rattle.number.specs.Number.{twoAt, fourAt, wordAt}
 use Rattle.number.proofs.Eights.{Octets}
 use Rattle.body.proofs.Sizes.{both}
 use Rattle.payload.specs.Content.{Bytes}
@@ -24,7 +22,7 @@ use Rattle.message.specs.Message.{Message, ipv4Prefix, ipv6Prefix, endOfData, r
 use Rattle.change.specs.Change.{announce, withdraw}
 use Rattle.message.specs.Record as said
 use Rattle.message.specs.Record.{partOf, payloadOf, goodRecord}
-use Rattle.message.specs.Read.{Front, front, frontOf, messageIn, sized}
+use Rattle.message.specs.Read.{front, frontOf, messageIn, sized}
 use Rattle.message.specs.Hear as message
 use Rattle.heard.specs.declared.hear.Stop.{Stop}
 use Rattle.heard.specs.declared.hear.Stop.the-variants.{Faulty, Ended}
@@ -32,7 +30,7 @@ use Rattle.heard.specs.declared.hear.Step.{Step}
 use Rattle.heard.specs.declared.hear.Step.the-variants.{On, Halt}
 use Rattle.heard.specs.declared.hear.Heard.{Heard}
 use Rattle.heard.specs.declared.sums.Sums.{Sums}
-use Rattle.heard.specs.Place.{typeAt, sizeAt, flagsAt, keyAt, announcesAt, toldAt, Sized, v4, v6, key, Payload, Messages, done, more}
+use Rattle.heard.specs.Place.{typeAt, sizeAt, flagsAt, keyAt, toldAt, Payload, Messages, done, more}
 use Rattle.heard.specs.Heard.{stopIs, HeardIs, countFlags, sumFields}
 pub use Rattle.heard.specs.Step.{Hearing}
 use Rattle.heard.specs.Step.{isWhole, Framed, Ending, Timed, Closing, endedAt, sizedAt, payloadAt, opens, StepIs, EndIs, stepMeans, plusAt, Small, Summed, heardOf, behind}

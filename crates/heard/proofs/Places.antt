@@ -1,18 +1,14 @@
 -- Laws of the readers of a message.
-use Prim.Native.Nat.{ℕ, zero, suc, _+_, _-_, _*_, _/_, _%_, _<_, _≤_}
-use mathlib.Core.Path.{_≡_, refl, sym, ap, _∙_}
-use mathlib.Core.List.{List, [], _∷_, _++_}
-use mathlib.Core.Bool.{Bool, true, false, cond}
+use Prim.Native.Nat.{ℕ, _+_, _*_, _/_, _%_, _<_, _≤_}
+use mathlib.Core.Path.{_≡_}
 use native.Mathlib.Omega.{arith}
 use borrow.Author.Tests.{eq-eqb, ne-eqb}
-use mir.Syntax.{w8}
-use mir.Val.{Fits}
 use lib.Dec.{eqb}
 use lib.ListN.{length, getD}
-use Rattle.number.specs.Number.{four, fourAt, wordAt}
+use Rattle.number.specs.Number.{fourAt, wordAt}
 use Rattle.number.proofs.Eights.{Octets}
 use Rattle.payload.specs.Content.{Bytes}
-use Rattle.heard.specs.Place.{typeAt, sizeAt, flagsAt, announcesAt, Sized, v4, v6, key, Payload}
+use Rattle.heard.specs.Place.{typeAt, sizeAt, announcesAt, Sized, v4, v6, key, Payload}
 
 -- ---- a word by its halves
 

@@ -1,12 +1,11 @@
 -- A run of the exported calls is the run of the same calls on a history.
-use Prim.Native.Nat.{ℕ, _^_, _<_}
-use mathlib.Core.Path.{_≡_, refl, sym, ap, _∙_}
+use Prim.Native.Nat.{ℕ}
+use mathlib.Core.Path.{_≡_, refl, ap, _∙_}
 use mathlib.Core.List.{List, [], _∷_}
 use mathlib.Core.Bool.{Bool, true, false, not}
 use native.Mathlib.Omega.{arith}
 use lib.Dec.{eqb}
 use lib.ListN.{length}
-use Rattle.order.specs.Map.{All}
 use Rattle.serial.specs.declared.Serial.{Serial}
 use Rattle.payload.specs.Content.{Bytes}
 use Rattle.past.specs.declared.state.History.{History}

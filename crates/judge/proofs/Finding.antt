@@ -1,7 +1,7 @@
 -- Laws of the search for a record in the snapshot.
 use Prim.Native.Nat.{ℕ, zero, suc, _+_, _-_, _<_, _≤_}
 use mathlib.Core.Path.{_≡_, refl, sym, ap, ap₂, subst, _∙_}
-use mathlib.Core.List.{List, [], _∷_, _++_, map, append-nil, append-assoc}
+use mathlib.Core.List.{List, [], _∷_, _++_, map, append-assoc}
 use mathlib.Core.Bool.{Bool, true, false, cond}
 use native.Mathlib.Omega.{arith}
 use native.Mathlib.Nat.{zero-add}
@@ -9,12 +9,12 @@ use mir.Syntax.{w8}
 use mir.Val.{Fits}
 use borrow.Author.Tests.{ltb-true}
 use lib.Dec.{eqb, ltb}
-use lib.ListN.{length, getD, take, drop, replicate, length-append, length-drop, length-take, length-replicate, getD-replicate, List·getD-append, List·getD-eq-default}
+use lib.ListN.{length, getD, take, drop, replicate, length-append, length-drop, length-take, length-replicate}
 use lib.Seq.{sets, take-at, drop-drop, take-add, sets-eq, length-sets}
 use Rattle.order.specs.declared.Ordering.{Ordering}
 use Rattle.order.specs.declared.Ordering.the-variants.{Less, Equal, Greater}
 use Rattle.order.specs.Comparison.{bytes, flip}
-use Rattle.order.specs.Map.{Item, All, lookup, own, Below, Sorted}
+use Rattle.order.specs.Map.{Item, All, Below, Sorted}
 use Rattle.order.proofs.Comparison.{strings}
 use Rattle.change.specs.Change.{Change}
 use Rattle.change.specs.Difference as change
@@ -23,7 +23,6 @@ use Rattle.number.specs.Bytes.{part, AllBytes}
 use Rattle.body.specs.declared.tag.Form.the-variants.{Snapshot}
 use Rattle.body.specs.Tag.{kindOf}
 use Rattle.body.proofs.Digits.{snapshot-kind}
-use Rattle.field.specs.declared.key.Key.{Key}
 use Rattle.field.specs.Cells.{Cell, cells, field}
 use Rattle.field.specs.Cells as run
 pub use Rattle.field.specs.Places.{keyIn}

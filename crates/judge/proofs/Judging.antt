@@ -1,6 +1,6 @@
 -- Laws of the entry.
 use Prim.Native.Nat.{ℕ, _+_, _-_, _*_, _^_, _<_, _≤_}
-use mathlib.Core.Path.{_≡_, refl, sym, ap, ap₂, subst, _∙_}
+use mathlib.Core.Path.{_≡_, refl, sym, ap, _∙_}
 use mathlib.Core.List.{List, [], _∷_, _++_, map}
 use mathlib.Core.Bool.{Bool, true, false, cond}
 use native.Mathlib.Omega.{arith}
@@ -11,7 +11,6 @@ use lib.Dec.{leb}
 use lib.ListN.{length, getD, take, drop, replicate, length-replicate, getD-replicate}
 use lib.Seq.{sets, sets-eq}
 use Rattle.order.specs.Comparison.{bytes}
-use Rattle.change.specs.Difference as change
 use Rattle.change.specs.Application.{apply}
 use Rattle.serial.specs.declared.Serial.{Serial}
 use Rattle.serial.specs.declared.Session.{Session}
@@ -26,33 +25,29 @@ use Rattle.payload.specs.Valid.{IsMap}
 use Rattle.payload.specs.Limit.{limit}
 use Rattle.payload.specs.Count.{announces, withdraws, sumOf}
 use Rattle.payload.proofs.Faithful.{faithful}
-use Rattle.item.specs.declared.sink.Counts.{Counts}
 use Rattle.item.specs.declared.reading.Reading.the-variants.{Announced}
 use Rattle.item.proofs.Putting.{counts-path}
 use Rattle.delta.specs.declared.refusal.Refusal.{Refusal}
 use Rattle.delta.specs.declared.refusal.Refusal.the-variants as refusal
 use Rattle.delta.specs.declared.admit.Admitted.{Admitted}
 use Rattle.delta.specs.declared.admit.Admitted.the-variants.{Yes, No}
-use Rattle.delta.specs.Admission.{andThen, limitAdmitted, judgedOf, verdictAdmitted, admitOneOf}
+use Rattle.delta.specs.Admission.{andThen, verdictAdmitted, admitOneOf}
 use Rattle.delta.specs.Answer.{outAfter}
 use Rattle.delta.proofs.Answering.{ready-start}
 use Rattle.message.specs.declared.version.Version.{Version}
 use Rattle.message.specs.Hear as message
-use Rattle.message.specs.Take.{Taken, all, misfit, asItem}
+use Rattle.message.specs.Take.{all, misfit, asItem}
 use Rattle.message.specs.Take as fold
 use Rattle.heard.specs.Place.{keyAt, announcesAt, toldAt, Payload, Messages, done, more}
-use Rattle.sorting.specs.Sorted.{sorted}
 use Rattle.batch.specs.Map.{Surveys, Mapped}
 use Rattle.batch.specs.Map as map
-use Rattle.heard.specs.declared.hear.Stop.{Stop}
 use Rattle.heard.specs.declared.hear.Stop.the-variants as stop
 use Rattle.heard.specs.declared.hear.Heard.{Heard}
-use Rattle.judge.specs.declared.judge.Judged.{Judged}
 use Rattle.judge.specs.declared.judge.Judged.the-variants.{Accepted, Refused}
 use Rattle.judge.specs.declared.judge.Length.{Length}
 use Rattle.judge.specs.declared.judge.Length.the-variants.{Over, Within}
 use Rattle.judge.specs.Walk.{leastFault, settled}
-use Rattle.judge.specs.Answer.{takenOf, misfitAs, takenAdmitted, stopAdmitted, judgeAdmitted, leaves, resultOf, countsOf, accepted, judgeAnswer, judgeOf, judgeOut}
+use Rattle.judge.specs.Answer.{takenOf, misfitAs, judgeAdmitted, resultOf, judgeOf, judgeOut}
 use Rattle.heard.specs.Field.{recordField}
 use Rattle.heard.specs.Heard.{stopIs, countFlags, sumFields, HeardIs}
 use Rattle.judge.specs.State.{offsets, ordered, Given, Charted, Heeds, leftAll, RoomFor, lengthOf, Balanced}
@@ -60,7 +55,7 @@ use Rattle.judge.proofs.Leaving.{offsets-are}
 use Rattle.judge.proofs.Sorting.{some-size}
 use Rattle.judge.proofs.Finding.{bytes-from}
 use Rattle.judge.proofs.Lengths.{taken-length}
-use Rattle.judge.proofs.Deciding.{FirstMisfit, AllTaken, fault-found, no-fault, announced-told, withdrawn-told}
+use Rattle.judge.proofs.Deciding.{FirstMisfit, fault-found, no-fault, announced-told, withdrawn-told}
 
 -- ---- misfit
 

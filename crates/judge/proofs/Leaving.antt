@@ -1,19 +1,19 @@
 -- The messages in message order, and what is left of them behind one.
-use Prim.Native.Nat.{ℕ, zero, suc, _+_, _-_, _<_, _≤_}
+use Prim.Native.Nat.{ℕ, zero, suc, _-_, _<_, _≤_}
 use mathlib.Core.Path.{_≡_, refl, sym, ap, subst, _∙_}
 use mathlib.Core.List.{List, [], _∷_, _++_, append-assoc}
 use mathlib.Core.Bool.{Bool, true, false, cond}
 use native.Mathlib.Omega.{arith}
-use borrow.Author.Tests.{eq-eqb, ne-eqb, eqb-true, eqb-false, lt-ltb, le-ltb}
-use lib.Dec.{eqb, ltb}
-use lib.ListN.{length, take, drop, take-append-drop, length-drop}
+use borrow.Author.Tests.{ne-eqb, lt-ltb, le-ltb}
+use lib.Dec.{eqb}
+use lib.ListN.{length, take}
 use Rattle.order.specs.Map.{All}
 use Rattle.payload.specs.Content.{Bytes}
-use Rattle.heard.specs.Place.{sizeAt, precedes, Payload, Messages, done, more}
+use Rattle.heard.specs.Place.{precedes, Payload, Messages, done, more}
 use Rattle.sorting.specs.Sorted.{insert, sorted}
 use Rattle.batch.specs.Next.{isAbove, above, left}
-use Rattle.sorting.proofs.Precede.{true≢false, never-self, same-place, precede-trans, precede-turn}
-use Rattle.judge.specs.State.{offsetsF, offsets, Next, Chain, end, on, lastOf}
+use Rattle.sorting.proofs.Precede.{never-self, same-place, precede-trans, precede-turn}
+use Rattle.judge.specs.State.{offsetsF, offsets, Chain, end, on, lastOf}
 use Rattle.judge.proofs.Sorting.{insert-all, sorted-all, sorted-end, sorted-more, some-size, messages-past, messages-stop, first-past}
 
 -- ---- the offsets, by walking

@@ -154,13 +154,6 @@ module _ (s : Bytes) where
   messages-stop done = omega arith
   messages-stop (more {at = at} p m) = omega (arith, messages-stop m)
 
-  -- they stand at no other offsets
-  pub messages-one : {at stop : ℕ} {xs ys : List ℕ} → Messages s at xs stop → Messages s at ys stop → xs ≡ ys
-  messages-one done done = refl
-  messages-one done (more p m) = absurd (omega (arith, some-size (p .sized), messages-stop m))
-  messages-one (more p m) done = absurd (omega (arith, some-size (p .sized), messages-stop m))
-  messages-one (more {at = at} p m) (more q n) = ap (λ (l : List ℕ). at ∷ l) (messages-one m n)
-
   -- the first stands before the others, also when these are in order
   pub first-past : {at stop : ℕ} {xs : List ℕ} → Payload s at → Messages s (at + sizeAt s at) xs stop → Past at (sorted s xs)
   first-past {at} {stop} {xs} p m = sorted-all (λ (y : ℕ). at < y) xs (messages-past m at (omega (arith, some-size (p .sized))))

@@ -1,19 +1,19 @@
 -- Laws of the messages of records.
-use Prim.Native.Nat.{ℕ, _+_, _-_, _*_, _/_, _%_, _<_, _≤_, _^_, min}
+use Prim.Native.Nat.{ℕ, _+_, _-_, _/_, _%_, _<_, _≤_, _^_}
 use mathlib.Core.Path.{_≡_, refl, sym, ap, ap₂, _∙_}
 use mathlib.Core.List.{[], _∷_, _++_}
 use mathlib.Core.Bool.{Bool, true, false, cond}
 use native.Mathlib.Omega.{arith}
 use borrow.Author.Tests.{eq-eqb, ne-eqb, eqb-true, eqb-false}
-use mir.Syntax.{w8, w64}
+use mir.Syntax.{w8}
 use mir.Val.{Fits}
 use lib.Dec.{eqb}
 use lib.ListN.{length, getD, take, drop, length-take, length-drop, length-append, take-append-drop}
-use lib.Seq.{sets, length-sets, getD-take, getD-drop, take-take, drop-drop, take-add, take-append-le, length-take-le, take-at, drop-at}
+use lib.Seq.{sets, length-sets, getD-take, getD-drop, take-take, drop-drop, take-add, length-take-le, take-at, drop-at}
 use Rattle.number.specs.Number.{twoBytes, fourBytes, wordAt, wordBytes}
 use Rattle.number.specs.Bytes.{part}
 use Rattle.number.proofs.Numbers.{bytes-of-word}
-use Rattle.body.specs.Origin.{family, address, prefixLength, maximumLength}
+use Rattle.body.specs.Origin.{family, address}
 use Rattle.field.specs.declared.key.Key.{Key}
 use Rattle.field.specs.Places.{keyIn}
 use Rattle.payload.specs.Content.{Bytes}
@@ -23,7 +23,7 @@ use Rattle.item.proofs.Places.{drop-take}
 use Rattle.message.specs.declared.version.Version.{Version}
 use Rattle.message.specs.Message.{header, pdu}
 use Rattle.message.specs.Record.{messageOf, routerKeyOf}
-use Rattle.pdu.specs.Write.{ipv4Of, ipv6Of, lengthsOf, flagsPlace, sizeOf, Lies23, Body, Sayable, PutIs}
+use Rattle.pdu.specs.Write.{ipv4Of, ipv6Of, lengthsOf, sizeOf, Lies23, Body, Sayable, PutIs}
 use Rattle.pdu.proofs.Heads.{join}
 use Rattle.pdu.proofs.Fixing.{four, eight}
 

@@ -1,20 +1,18 @@
 -- Demand 3 carried to the wire.
-use Prim.Native.Nat.{ℕ, _-_, _%_, _^_, _<_, _≤_}
+use Prim.Native.Nat.{ℕ, _-_, _^_, _<_}
 use mathlib.Core.Path.{_≡_, refl, sym, ap, ap₂, _∙_}
-use mathlib.Core.List.{List, [], _∷_, _++_, map}
+use mathlib.Core.List.{[], map}
 use mathlib.Core.Bool.{Bool, true, false, cond}
-use mathlib.Core.Option.{some}
 use native.Mathlib.Omega.{arith}
-use borrow.Author.Tests.{le-leb, leb-true}
+use borrow.Author.Tests.{le-leb}
 use lib.Dec.{leb}
 use lib.ListN.{length, take, drop}
 use lib.Seq.{take-at}
 use Rattle.order.specs.Comparison.{bytes}
-use Rattle.order.specs.Map.{All, Sorted}
+use Rattle.order.specs.Map.{All}
 use Rattle.order.proofs.Comparison.{strings}
 use Rattle.change.specs.Difference as change
 use Rattle.change.specs.Difference.{diff}
-use Rattle.change.specs.Application.{apply}
 use Rattle.change.specs.History.{lastN}
 use Rattle.change.proofs.Whole.{yields, applies}
 use Rattle.change.proofs.Chain.{all-drop}
@@ -37,19 +35,18 @@ use Rattle.message.specs.declared.version.Version.the-variants.{Rfc6810, Rfc821
 use Rattle.message.specs.Message.{cacheReset, pdu, pdus}
 use Rattle.message.specs.Say.{spoken, answer}
 use Rattle.message.specs.Take.{all}
-use Rattle.message.specs.Take as router
 use Rattle.delta.specs.declared.refusal.Refusal.{Refusal}
 use Rattle.delta.specs.declared.refusal.Refusal.the-variants.{NoRoom, IllFormed}
 use Rattle.delta.specs.Answer.{differenceOf, countsOf}
 use Rattle.delta.specs.Demand.{GoodSnapshot}
 use Rattle.past.specs.declared.state.History.{History}
 use Rattle.past.specs.declared.query.Answer.the-variants.{Served}
-use Rattle.past.specs.Store.{cuts, heldDeltas}
+use Rattle.past.specs.Store.{heldDeltas}
 use Rattle.past.specs.WellFormed.{wellFormed}
 use Rattle.past.specs.Query.{isServed, isSession, mergedLast, answerOf, queryOf, queryOut}
 use Rattle.past.specs.Full.{notifyOf}
-use Rattle.past.specs.Run.{World, Call, Reply, noticed, updated, queried, fully, isReady, Reached, startOf, runOf, carried}
-use Rattle.past.specs.Promise.{serialIn, current, queriedIn, writtenIn, Promise, Leads}
+use Rattle.past.specs.Run.{World, Reply, noticed, updated, queried, fully, isReady, Reached, startOf, runOf}
+use Rattle.past.specs.Promise.{serialIn, current, queriedIn, writtenIn, Promise}
 use Rattle.past.proofs.Lists.{all-map}
 use Rattle.past.proofs.Runs.{promise}
 use Rattle.past.proofs.Given.{given-good, all-carried, good-current}
@@ -61,7 +58,7 @@ use Rattle.wire.specs.declared.sent.Reply.the-variants.{Data, Reset, Report}
 use Rattle.wire.specs.Answer.{Plan, refuse, aside, refusedWith, reportBytes, frameOf, answerBytes, tallyOf, sentAt, outAt, dataPlan, resetPlan, reportPlan, changesSince, queryPlan, allNew, fullPlan}
 use Rattle.router.specs.Send.{TimesFit}
 use Rattle.router.specs.Heard.{Spoken, toldFrom}
-use Rattle.router.specs.Promise.{HeardAs, LeadsOn, Home, queryIn, fullIn, written, Wire, EveryWire}
+use Rattle.router.specs.Promise.{LeadsOn, Home, queryIn, fullIn, written, Wire, EveryWire}
 use Rattle.router.proofs.Heard.{hear-answer, told-items}
 use Rattle.router.proofs.Routers.{router-takes, spoken-all}
 use Rattle.router.proofs.Octets.{item-bytes, diff-bytes}
@@ -211,10 +208,6 @@ module _ (v : Version) (session keep : ℕ) (start : Serial) (r : Reached) (p : 
 
   bytes-are : (D : change.Delta Bytes Bytes) → answerBytes v (frameOf h times) D ≡ pdus v (answer v (sessionOf session .0) (F .0) (timingOf times) D)
   bytes-are D = ap₂ (λ (s : Session) (n : Serial). pdus v (answer v (s .0) (n .0) (timingOf times) D)) own (p .serial)
-
-  -- what a served query would have written as a delta
-  plain : (s : Session) (asked : Serial) → Bytes → Type 0
-  plain s asked out = queriedIn w s asked (length out) .answer ≡ Served (countsOf (answerOf h asked (w .deltas)))
 
   module _ (s : Session) (asked : Serial) (f : wellFormed h (w .snapshots) (w .deltas) ≡ true) (u : isSession h s ≡ true)
       (g : isServed (h .start) (h .n) asked (distanceOf (h .newest) asked) ≡ true) where

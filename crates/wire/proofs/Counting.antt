@@ -1,18 +1,17 @@
 -- Laws of put_item: an item's message, or that there is none.
 use Prim.Native.Nat.{ℕ, _+_, _-_, _^_, _≤_, _<_}
-use mathlib.Core.Path.{_≡_, refl, sym, ap, ap₂, _∙_}
+use mathlib.Core.Path.{_≡_, refl, sym, ap, _∙_}
 use mathlib.Core.List.{[], _∷_}
 use mathlib.Core.Bool.{Bool, true, false, not, cond}
-use mathlib.Core.Logic.{_⊎_, inl, inr}
 use native.Mathlib.Omega.{arith}
 use borrow.Author.Tests.{not-true, not-false, eq-eqb, ne-eqb, eqb-true, leb-true}
 use lib.Dec.{eqb, leb}
 use lib.ListN.{length, getD, drop}
 use lib.Seq.{sets, length-take-le}
 use lib.ListN.{length-drop}
-use Rattle.change.specs.Change.{Change, announce, withdraw, update}
+use Rattle.change.specs.Change.{Change}
 use Rattle.number.specs.Bytes.{part}
-use Rattle.body.specs.Origin.{family, goodPrefix, goodOrigin}
+use Rattle.body.specs.Origin.{goodOrigin}
 use Rattle.body.specs.RouterKey.{goodRouterKey}
 use Rattle.body.proofs.Sizes.{both}
 use Rattle.field.specs.declared.key.Key.{Key}
@@ -30,7 +29,7 @@ use Rattle.message.specs.Message.{pdu}
 use Rattle.message.specs.Record.{messageOf, flagsOf}
 use Rattle.pdu.specs.Write.{flagsPlace, Sayable, PutIs}
 use Rattle.wire.specs.declared.tally.Tally.{Tally}
-use Rattle.wire.specs.Tally.{saying, plusAll, plusPlace, skipPlace, Countable, Says, Steps, ItemIs}
+use Rattle.wire.specs.Tally.{saying, plusPlace, skipPlace, Countable, Says, ItemIs}
 use Rattle.wire.proofs.Saying.{X, tally-path, said-one, sum-one, skipped-said, unsaid-one, sum-unsaid, skipped-unsaid}
 
 -- ---- what a version speaks of
