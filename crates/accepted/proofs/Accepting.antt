@@ -16,7 +16,6 @@ use Rattle.serial.specs.declared.timing.Timing.{Timing}
 use Rattle.serial.specs.Serial.{sessionOf}
 use Rattle.serial.specs.Timing.{timingOf}
 use Rattle.body.specs.declared.tag.Form.the-variants.{Snapshot, Delta}
-use Rattle.field.specs.Cells as run
 use Rattle.payload.specs.Content.{Bytes}
 use Rattle.payload.specs.Payload.{encode, items}
 use Rattle.payload.specs.Valid.{Valid, IsMap}
@@ -24,6 +23,7 @@ use Rattle.payload.proofs.Faithful.{faithful}
 use Rattle.payload.proofs.Closed.{diff-map, apply-map}
 use Rattle.delta.specs.declared.admit.Admitted.the-variants.{Yes}
 use Rattle.delta.specs.Demand.{GoodSnapshot, Acceptable}
+use Rattle.delta.proofs.Differences.{empty-good}
 use Rattle.payload.specs.Written.{writtenOver}
 use Rattle.message.specs.declared.version.Version.{Version}
 use Rattle.message.specs.Version.{speaks, timesTold}
@@ -122,11 +122,7 @@ module _ (v : Version) (session : ℕ) (serial : Serial) (times : Timing) (base 
 -- ---- every run
 
 empty-acceptable : Acceptable []
-unfolding encode run.cellBytes
-empty-acceptable = record {
-  good = record { octets = λ i. omega arith; fine = faithful Snapshot .good-bytes [] (record { sorted = tt; valid = tt }) };
-  short = omega arith;
-}
+empty-acceptable = record { good = empty-good; short = omega arith }
 
 -- in any version, over every run of calls from a fresh history
 pub judged : EveryJudged

@@ -20,7 +20,7 @@ use Rattle.batch.specs.Map as map
 use Rattle.sorting.proofs.Sorting.{All, cons, climbing-at, all-at, all-by, all-sorted, Climbing, flat, up, climbing-sorted, length-sorted}
 use Rattle.batch.proofs.Sorting.{in-sorted, all-in}
 use Rattle.sorting.proofs.Precede.{never-self}
-use Rattle.batch.proofs.Keeping.{size-some, messages-ahead, messages-good, messages-append, Halves, messages-halves, messages-same, in-all, in-append, in-behind}
+use Rattle.batch.proofs.Keeping.{size-some, messages-ahead, messages-good, messages-append, messages-first, Halves, messages-halves, messages-same, in-all, in-append, in-behind}
 
 -- ---- fill
 
@@ -39,14 +39,6 @@ pub fill-start : (s : Bytes) (from stop : ℕ) (l : List ℕ) → Stretch s from
 fill-start s from stop l t e =
     record { cs = []; messages = done; rest = t .xs; ahead = t .messages; few = omega arith; len = e; is = refl; some = λ h. absurd (omega arith); moved = λ h. absurd (omega arith) }
 
-first-good : {s : Bytes} {at stop : ℕ} {xs : List ℕ} → Messages s at xs stop → at < stop → Payload s at
-first-good done h = absurd (omega arith)
-first-good (more p m) h = p
-
-past : {s : Bytes} {at stop : ℕ} {xs : List ℕ} → Messages s at xs stop → at < stop → Stretch s (at + sizeAt s at) stop
-past done h = absurd (omega arith)
-past (more {xs = xs} p m) h = record { xs = xs; messages = m }
-
 module _ (s : Bytes) (from stop : ℕ) (l : List ℕ) (n at : ℕ) (t : Filling s from stop l n at) where
   pub fill-few : n ≤ 6_000
   fill-few = t .few
@@ -56,7 +48,7 @@ module _ (s : Bytes) (from stop : ℕ) (l : List ℕ) (n at : ℕ) (t : Filling 
 
   module _ (h : at < stop) where
     pub fill-good : Payload s at
-    fill-good = first-good (t .ahead) h
+    fill-good = messages-first (t .ahead) h .good
 
     pub fill-full : n ≡ 6_000 → FilledIs s from stop l (record { n = n; over = at })
     fill-full e = record {
@@ -73,14 +65,14 @@ module _ (s : Bytes) (from stop : ℕ) (l : List ℕ) (n at : ℕ) (t : Filling 
 
     module _ (size : ℕ) (e : size ≡ sizeAt s at) where
       pub fill-add : Fits w64 stop → Fits w64 (at + size)
-      fill-add f = record { fits = omega (arith, e, messages-ahead (past (t .ahead) h .messages), f .fits) }
+      fill-add f = record { fits = omega (arith, e, messages-ahead (messages-first (t .ahead) h .ahead), f .fits) }
 
       pub fill-again : (n ≡ 6_000 → ⊥) → Filling s from stop (set l n at) (n + 1) (at + size)
       fill-again g = record {
         cs = t .cs ++ (at ∷ []);
         messages = rw e (messages-append (t .messages) (more fill-good done));
-        rest = past (t .ahead) h .xs;
-        ahead = rw e (past (t .ahead) h .messages);
+        rest = messages-first (t .ahead) h .rest;
+        ahead = rw e (messages-first (t .ahead) h .ahead);
         few = omega (arith, t .few);
         len = length-set l n at ∙ t .len;
         is = rw (add-one n, take-suc-set l n at (omega (arith, t .few, t .len))) (ap (λ (r : List ℕ). r ++ (at ∷ [])) (t .is));

@@ -2,7 +2,7 @@
 use Prim.Native.Nat.{ℕ, _+_, _-_, _<_, _≤_}
 use mathlib.Core.Path.{_≡_, refl, sym, ap, _∙_}
 use mathlib.Core.List.{[], _++_}
-use mathlib.Core.Bool.{Bool, true, false, not, _&&_}
+use mathlib.Core.Bool.{Bool, true, false, not, _&&_, and-false}
 use native.Mathlib.Omega.{arith}
 use native.Mathlib.Decide.{decLe}
 use borrow.Author.Tests.{eq-eqb, ne-eqb, le-leb, lt-leb, not-true, not-false}
@@ -73,10 +73,6 @@ module _ (s : Bytes) (at : ℕ) (o : Octets s) (w : Words) (e : w ≡ wordsAt (r
 pub ruleset goods = (words-good, four-last-small, four-good-is, six-last-small, six-good-is)
 
 -- ---- is_payload
-
-and-false : (b : Bool) → b && false ≡ false
-and-false true = refl
-and-false false = refl
 
 module _ (v : Version) (s : Bytes) (at size : ℕ) (f : Framed s at size) where
   pub framed-1 : at + 1 < length s

@@ -10,6 +10,7 @@ use lib.Seq.{length-take-le}
 use Rattle.number.specs.Number.{four, wordAt}
 use Rattle.number.specs.Bytes.{part}
 use Rattle.number.proofs.Eights.{Octets}
+use Rattle.number.proofs.Numbers.{high-half}
 use Rattle.body.specs.declared.tag.Form.the-variants.{Snapshot}
 use Rattle.body.specs.Tag.{kindOf, tagOf, goodBody}
 use Rattle.field.specs.Key.{keyOf}
@@ -18,7 +19,7 @@ use Rattle.item.specs.Front.{packs, frontKey, frontIn}
 use Rattle.item.proofs.Fronts.{front-here}
 use Rattle.heard.specs.Place.{typeAt, sizeAt, keyAt, Sized, v4, v6, key, Payload}
 use Rattle.heard.proofs.Keys.{byteAt, word-from, four-from, four-key, six-key, router-key}
-use Rattle.heard.proofs.Places.{high-half, least, long}
+use Rattle.heard.proofs.Places.{least, long}
 
 module _ (k w : ℕ) where
   pub address-four : k ≡ 4 → w / 4_294_967_296 * 65_536 ≡ cond (eqb k 4) (w / 4_294_967_296 * 65_536) (w / 65_536)

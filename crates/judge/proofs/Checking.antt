@@ -23,6 +23,7 @@ use Rattle.payload.specs.Payload.{items}
 use Rattle.item.specs.declared.reading.Reading.the-variants.{Announced}
 use Rattle.item.specs.Reading.{Ready}
 use Rattle.heard.specs.Place.{keyAt, announcesAt, Payload, before, precedes}
+use Rattle.sorting.proofs.Precede.{true≢false}
 use Rattle.batch.specs.Next.{isAbove}
 use Rattle.judge.specs.declared.find.Found.{Found}
 use Rattle.judge.specs.declared.check.Check.{Check}
@@ -32,9 +33,6 @@ use Rattle.judge.proofs.Finding.{sorted-from}
 
 abbrev S : Type 0
 S = change.Snapshot Bytes Bytes
-
-pub true≢false : {X : Type 0} {b : Bool} → b ≡ true → b ≡ false → X
-true≢false p q = absurd (let z : _≡_ {A = ℕ} 0 1 = cc in omega arith)
 
 -- ---- is_next
 
@@ -186,10 +184,10 @@ pub ruleset ones = (checked-last, checked-ready, checked-payload, one-follows, o
 
 -- ---- check_batch
 
-chain-next : (s : Bytes) (last x : ℕ) (xs : List ℕ) → Chain s last (x ∷ xs) → Next s last x
+pub chain-next : (s : Bytes) (last x : ℕ) (xs : List ℕ) → Chain s last (x ∷ xs) → Next s last x
 chain-next s last x xs (on n c) = n
 
-chain-rest : (s : Bytes) (last x : ℕ) (xs : List ℕ) → Chain s last (x ∷ xs) → Chain s x xs
+pub chain-rest : (s : Bytes) (last x : ℕ) (xs : List ℕ) → Chain s last (x ∷ xs) → Chain s x xs
 chain-rest s last x xs (on n c) = c
 
 -- the next of the first n of a list

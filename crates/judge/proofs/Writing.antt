@@ -41,7 +41,7 @@ use Rattle.judge.specs.State.{Last, no, one, Next, Chain, end, on, lastO
 use Rattle.judge.proofs.Settled.{settle-end, settle-same, settle-other, settled-end, settled-more}
 use Rattle.judge.proofs.Sorting.{follows-same}
 use Rattle.judge.proofs.Finding.{encode-append, bytes-from}
-use Rattle.judge.proofs.Checking.{follows-key, last-payload, next-of}
+use Rattle.judge.proofs.Checking.{follows-key, last-payload, chain-next, chain-rest, next-of}
 
 abbrev S : Type 0
 S = change.Snapshot Bytes Bytes
@@ -280,12 +280,6 @@ module _ (a s : Bytes) (w : Write) (x : ℕ) (h : Written a s w) where
 pub ruleset writes-one = (written-last, written-ready, write-follows, write-settles, write-add, write-lies, write-found)
 
 -- ---- write_batch
-
-chain-next : (s : Bytes) (last x : ℕ) (xs : List ℕ) → Chain s last (x ∷ xs) → Next s last x
-chain-next s last x xs (on n c) = n
-
-chain-rest : (s : Bytes) (last x : ℕ) (xs : List ℕ) → Chain s last (x ∷ xs) → Chain s x xs
-chain-rest s last x xs (on n c) = c
 
 pub record Writing (a s : Bytes) (buf : List ℕ) (n : ℕ) (o₀ : Bytes) (w₀ : Write) (o : Bytes) (w : Write) (i : ℕ) : Type 0 where
   pub written : Written a s w

@@ -9,6 +9,7 @@ use lib.Dec.{leb, eqb}
 use lib.ListN.{length, getD, take, drop, replicate, length-append, length-take, length-drop, take-append-drop}
 use lib.Seq.{drop-drop, drop-cons}
 use Rattle.order.specs.Map.{All}
+use Rattle.order.proofs.Never.{never}
 use Rattle.change.specs.Change.{Change, announce, withdraw}
 use Rattle.change.specs.Difference.{Delta}
 use Rattle.serial.specs.declared.timing.Timing.{Timing}
@@ -22,7 +23,6 @@ use Rattle.payload.specs.Content.{Bytes}
 use Rattle.payload.specs.Valid.{ValidChange, origin, routerKey, aspa, validAnnounce, validWithdraw, validUpdate}
 use Rattle.item.proofs.Fronts.{drop-bytes, take-bytes}
 use Rattle.message.specs.declared.version.Version.{Version}
-use Rattle.message.specs.declared.version.Version.the-variants.{Rfc6810, Rfc8210}
 use Rattle.message.specs.Version.{speaks, timesTold}
 use Rattle.message.specs.Message.{Message, cacheResponse, endOfData, pdu, pdus}
 use Rattle.message.specs.Message as message
@@ -31,6 +31,7 @@ use Rattle.message.specs.Say.{spoken, sayOf, answer}
 use Rattle.message.specs.Read.{Front, read}
 use Rattle.message.specs.Hear.{ended, more, hearPart, hearFront, hearF, openFront, hear}
 use Rattle.message.specs.Take.{asItem}
+use Rattle.wire.proofs.Counting.{aspas-unspoken}
 use Rattle.router.specs.Send.{TimesFit, Sendable}
 use Rattle.router.specs.Heard.{X, Spoken, toldFrom}
 use Rattle.router.proofs.Trip.{end-trip, trip}
@@ -118,12 +119,8 @@ announced-part k g = rw g
 withdrawn-part : (k : Bytes) → goodRecord k ≡ true → payloadOf 0 k ≡ payload k (withdraw [])
 withdrawn-part k g = rw g
 
-aspa-unspoken : (v : Version) → speaks v 3 ≡ false
-aspa-unspoken Rfc6810 = refl
-aspa-unspoken Rfc8210 = refl
-
 unsaid : {A : Type 0} (v : Version) → speaks v 3 ≡ true → A
-unsaid v e = absurd (let z : true ≡ false = sym e ∙ aspa-unspoken v in let w : _≡_ {A = ℕ} 0 1 = cc in omega arith)
+unsaid v e = let z : true ≡ false = sym e ∙ aspas-unspoken v in never cc
 
 pub part-is : (v : Version) (x : X) → Spoken v x → partOf (sayOf x) ≡ payload (x .key) (x .val)
 unfolding messageOf

@@ -9,6 +9,7 @@ use lib.Dec.{eqb, leb}
 use lib.ListN.{length, getD, drop}
 use lib.Seq.{sets, length-take-le}
 use lib.ListN.{length-drop}
+use Rattle.order.proofs.Never.{never}
 use Rattle.change.specs.Change.{Change}
 use Rattle.number.specs.Bytes.{part}
 use Rattle.body.specs.Origin.{goodOrigin}
@@ -119,7 +120,7 @@ module _ (v : Version) (s : Bytes) (key : Key) (act : Act) (y : Says s key act) 
         x = itemIn s s key act
 
         clash : {A : Type 0} → speaks v (key .kind) ≡ true → A
-        clash e = absurd (let z : true ≡ false = sym e ∙ unsaid in let w : _≡_ {A = ℕ} 0 1 = cc in omega arith)
+        clash e = let z : true ≡ false = sym e ∙ unsaid in never cc
 
         done : (p a : ℕ) → cond (eqb (key .kind) 2) 1 0 ≡ p → cond (eqb (key .kind) 3) 1 0 ≡ a → p ≤ 1 → a ≤ 1 →
             r ≡ record { len = t .len; announced = t .announced; withdrawn = t .withdrawn; keys = t .keys + p; aspas = t .aspas + a } → ItemIs v x t o o r
@@ -155,7 +156,7 @@ module _ (v : Version) (s : Bytes) (key : Key) (act : Act) (y : Says s key act) 
           origin = λ h. absurd (omega arith);
           other = λ h. omega (arith, name-length, l, y .key-in .fits .ordered);
         }
-        go (anAspa e) = absurd (let z : true ≡ false = sym spoken ∙ ap (speaks v) e ∙ aspas-unspoken v in let w : _≡_ {A = ℕ} 0 1 = cc in omega arith)
+        go (anAspa e) = let z : true ≡ false = sym spoken ∙ ap (speaks v) e ∙ aspas-unspoken v in never cc
 
     module _ (flags : ℕ) (ef : flags ≡ flagsPlace act) (o o′ : Bytes) (size : ℕ) (p : PutIs (pdu v (messageOf flags (keyIn s key))) o (t .len) o′ size) where
       pub item-small : size ≤ 1_056

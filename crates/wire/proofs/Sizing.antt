@@ -8,6 +8,7 @@ use borrow.Author.Tests.{eq-eqb, ne-eqb}
 use lib.Dec.{eqb}
 use lib.ListN.{length, getD, drop, length-append}
 use Rattle.order.specs.Map.{All}
+use Rattle.order.proofs.Never.{never}
 use Rattle.number.specs.Bytes.{AllBytes}
 use Rattle.body.specs.declared.tag.Form.the-variants.{Snapshot, Delta}
 use Rattle.body.specs.Origin.{family}
@@ -47,7 +48,7 @@ message-short v flags k (anOrigin e l) s = rw (eq-eqb (getD k 0 0) 1 e) (go (eqb
     go true = omega (arith, ipv4-length v flags (drop 1 k) l, l)
     go false = omega (arith, ipv6-length v flags (drop 1 k) l, l)
 message-short v flags k (aRouterKey e l) s = rw (ne-eqb (getD k 0 0) 1 (λ q. omega arith)) (omega (arith, key-length v flags (drop 1 k) l, l))
-message-short v flags k (anAspa e) s = absurd (let z : true ≡ false = sym s ∙ ap (speaks v) e ∙ aspas-unspoken v in let w : _≡_ {A = ℕ} 0 1 = cc in omega arith)
+message-short v flags k (anAspa e) s = let z : true ≡ false = sym s ∙ ap (speaks v) e ∙ aspas-unspoken v in never cc
 
 one-short : (v : Version) (x : X) → Valid Delta x → 4 * length (saying v (x ∷ [])) ≤ 5 * (3 + length (drop 1 (x .key)))
 one-short v x h = go (speaks v (kindIn x)) refl
