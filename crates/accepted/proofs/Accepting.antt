@@ -23,7 +23,7 @@ use Rattle.payload.proofs.Faithful.{faithful}
 use Rattle.payload.proofs.Closed.{diff-map, apply-map}
 use Rattle.delta.specs.declared.admit.Admitted.the-variants.{Yes}
 use Rattle.delta.specs.Demand.{GoodSnapshot, Acceptable}
-use Rattle.delta.proofs.Differences.{empty-good}
+use Rattle.delta.proofs.Differences.{empty-good, good-map}
 use Rattle.payload.specs.Written.{writtenOver}
 use Rattle.message.specs.declared.version.Version.{Version}
 use Rattle.message.specs.Version.{speaks, timesTold}
@@ -69,10 +69,10 @@ module _ (v : Version) (session : ℕ) (serial : Serial) (times : Timing) (base 
   B = apply bytes A D
 
   map-a : IsMap Snapshot A
-  map-a = faithful Snapshot .map-of base (gb .good .fine)
+  map-a = good-map base (gb .good)
 
   map-c : IsMap Snapshot C
-  map-c = faithful Snapshot .map-of now (gn .fine)
+  map-c = good-map now gn
 
   map-b : IsMap Snapshot B
   map-b =

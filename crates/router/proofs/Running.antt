@@ -39,7 +39,7 @@ use Rattle.delta.specs.declared.refusal.Refusal.{Refusal}
 use Rattle.delta.specs.declared.refusal.Refusal.the-variants.{NoRoom, IllFormed}
 use Rattle.delta.specs.Answer.{differenceOf, countsOf}
 use Rattle.delta.specs.Demand.{GoodSnapshot}
-use Rattle.delta.proofs.Differences.{empty-good}
+use Rattle.delta.proofs.Differences.{empty-good, good-map}
 use Rattle.past.specs.declared.state.History.{History}
 use Rattle.past.specs.declared.query.Answer.the-variants.{Served}
 use Rattle.past.specs.Store.{heldDeltas}
@@ -142,10 +142,10 @@ module _ (v : Version) (session : ℕ) (serial : Serial) (times : Timing) (bound
   C = items now
 
   map-a : IsMap Snapshot A
-  map-a = faithful Snapshot .map-of base (gb .fine)
+  map-a = good-map base gb
 
   map-c : IsMap Snapshot C
-  map-c = faithful Snapshot .map-of now (gn .fine)
+  map-c = good-map now gn
 
   map-d : IsMap Delta (diff bytes bytes A C)
   map-d = diff-map A C map-a map-c
