@@ -882,18 +882,7 @@ fn queries(rng: &mut Rng, world: &World) -> Vec<u8> {
         2 => 380 + rng.below(8),
         n => n % 12,
     };
-    let (session, n) = (world.state.session as u16, world.state.n as usize);
-    let mut list = vec![];
-    for _ in 0..count {
-        let d = if rng.one_in(9) { rng.next() as u32 } else { rng.below(n + 2) as u32 };
-        let session = if rng.one_in(9) { session ^ (1 << rng.below(16)) } else { session };
-        list.extend(session.to_be_bytes());
-        list.extend(world.state.newest.wrapping_sub(d).to_be_bytes());
-    }
-    if rng.one_in(12) {
-        list.resize(list.len() + 1 + rng.below(5), 0);
-    }
-    list
+    world.queries(rng, count)
 }
 
 fn bytes(snapshot: &Snapshot) -> Vec<u8> {

@@ -338,6 +338,22 @@ impl World {
         Call::query(self.state, session, serial, self.snapshots.clone(), self.deltas.clone(), vec![])
     }
 
+    /// A list of so many queries, most of them good; at times it ends within one.
+    pub fn queries(&self, rng: &mut Rng, count: usize) -> Vec<u8> {
+        let (session, n) = (self.state.session as u16, self.state.n as usize);
+        let mut list = vec![];
+        for _ in 0..count {
+            let d = if rng.one_in(9) { rng.next() as u32 } else { rng.below(n + 2) as u32 };
+            let session = if rng.one_in(9) { session ^ (1 << rng.below(16)) } else { session };
+            list.extend(session.to_be_bytes());
+            list.extend(self.state.newest.wrapping_sub(d).to_be_bytes());
+        }
+        if rng.one_in(12) {
+            list.resize(list.len() + 1 + rng.below(5), 0);
+        }
+        list
+    }
+
     pub fn query_all(&self, list: Vec<u8>, out: Vec<u8>) -> Call {
         Call::query_all(self.state, self.snapshots.clone(), self.deltas.clone(), list, out)
     }

@@ -1,55 +1,46 @@
 -- What a router would take to the end, the judge accepts.
-use Prim.Native.Nat.{ℕ, _%_, _^_, _<_, _≤_}
-use mathlib.Core.Path.{_≡_, refl, sym, ap, _∙_}
-use mathlib.Core.List.{List, [], _∷_, map}
+use Prim.Native.Nat.{ℕ, _≤_}
+use mathlib.Core.Path.{_≡_, ap, _∙_}
+use mathlib.Core.List.{[], _∷_, map}
 use mathlib.Core.Bool.{Bool, true, false, cond}
-use mathlib.Core.Option.{some}
 use native.Mathlib.Omega.{arith}
 use borrow.Author.Tests.{le-leb}
-use lib.Dec.{leb}
 use lib.ListN.{length}
 use Rattle.order.specs.Comparison.{bytes}
-use Rattle.order.specs.Map.{Item, All}
-use Rattle.change.specs.Change.{Change}
+use Rattle.order.specs.Map.{All}
 use Rattle.change.specs.Difference as change
 use Rattle.change.specs.Difference.{diff}
 use Rattle.change.specs.Application.{apply}
 use Rattle.serial.specs.declared.Serial.{Serial}
-use Rattle.serial.specs.declared.Session.{Session}
 use Rattle.serial.specs.declared.timing.Timing.{Timing}
 use Rattle.serial.specs.Serial.{sessionOf}
 use Rattle.serial.specs.Timing.{timingOf}
 use Rattle.body.specs.declared.tag.Form.the-variants.{Snapshot, Delta}
-use Rattle.field.specs.Cells as run
 use Rattle.payload.specs.Content.{Bytes}
 use Rattle.payload.specs.Payload.{encode, items}
 use Rattle.payload.specs.Valid.{Valid, IsMap}
-use Rattle.payload.specs.Limit.{limit}
 use Rattle.payload.proofs.Faithful.{faithful}
 use Rattle.payload.proofs.Closed.{diff-map, apply-map}
 use Rattle.delta.specs.declared.admit.Admitted.the-variants.{Yes}
-use Rattle.delta.specs.Admission.{admitOneOf}
 use Rattle.delta.specs.Demand.{GoodSnapshot, Acceptable}
+use Rattle.delta.proofs.Differences.{empty-good, good-map}
 use Rattle.payload.specs.Written.{writtenOver}
 use Rattle.message.specs.declared.version.Version.{Version}
 use Rattle.message.specs.Version.{speaks, timesTold}
 use Rattle.message.specs.Say.{kindIn, spoken}
-use Rattle.message.specs.Hear.{Heard, Stop, ended, hear}
+use Rattle.message.specs.Hear.{Heard, ended, hear}
 use Rattle.message.specs.Take.{all, asItem, take}
 use Rattle.message.proofs.Spoken.{spoken-sorted}
 use Rattle.judge.specs.declared.judge.Judged.the-variants.{Accepted}
 use Rattle.judge.specs.Answer.{countsOf, judgeAdmitted, resultOf, judgeOf, judgeOut}
 use Rattle.judge.specs.Promise.{unspoken}
 use Rattle.judge.proofs.Results.{onward-spoken, onward-unspoken, onward-whole, onward-taken}
-use Rattle.past.specs.Run.{Reached, Call, startOf, runOf, carried}
+use Rattle.past.specs.Run.{Reached, startOf, runOf}
 use Rattle.past.specs.Promise.{serialIn, current, Promise}
 use Rattle.past.proofs.Runs.{promise}
 use Rattle.past.proofs.Given.{given-acceptable, given-good, all-carried, good-current}
 use Rattle.past.proofs.Steps.{fine-admitted}
-use Rattle.wire.specs.declared.tally.Tally.{Tally}
-use Rattle.wire.specs.declared.sent.Reply.the-variants.{Data}
-use Rattle.wire.specs.Answer.{sentAt}
-use Rattle.router.specs.Promise.{HeardAs, LeadsOn, Home, queryIn, fullIn, written, Wire}
+use Rattle.router.specs.Promise.{LeadsOn, queryIn, fullIn, written, Wire}
 use Rattle.router.proofs.Running.{wire}
 use Rattle.accepted.specs.Accepted.{Accepts, Judged, EveryJudged}
 
@@ -78,10 +69,10 @@ module _ (v : Version) (session : ℕ) (serial : Serial) (times : Timing) (base 
   B = apply bytes A D
 
   map-a : IsMap Snapshot A
-  map-a = faithful Snapshot .map-of base (gb .good .fine)
+  map-a = good-map base (gb .good)
 
   map-c : IsMap Snapshot C
-  map-c = faithful Snapshot .map-of now (gn .fine)
+  map-c = good-map now gn
 
   map-b : IsMap Snapshot B
   map-b =
@@ -131,11 +122,7 @@ module _ (v : Version) (session : ℕ) (serial : Serial) (times : Timing) (base 
 -- ---- every run
 
 empty-acceptable : Acceptable []
-unfolding encode run.cellBytes
-empty-acceptable = record {
-  good = record { octets = λ i. omega arith; fine = faithful Snapshot .good-bytes [] (record { sorted = tt; valid = tt }) };
-  short = omega arith;
-}
+empty-acceptable = record { good = empty-good; short = omega arith }
 
 -- in any version, over every run of calls from a fresh history
 pub judged : EveryJudged

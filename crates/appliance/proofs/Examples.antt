@@ -1,7 +1,6 @@
 -- Worked examples, by computation: lists, and the replies of a history that holds nothing.
-use Prim.Native.Nat.{ℕ}
 use mathlib.Core.Path.{_≡_, refl}
-use mathlib.Core.List.{List, [], _∷_, _++_}
+use mathlib.Core.List.{[], _∷_, _++_}
 use mathlib.Core.Bool.{true, false}
 use lib.ListN.{replicate}
 use Rattle.order.specs.Walk.{walk}
@@ -17,7 +16,7 @@ use Rattle.past.specs.Create.{freshOf}
 use Rattle.past.specs.Query.{mergedLast, queryOf, queryOut}
 use Rattle.delta.specs.declared.refusal.Refusal.the-variants.{OtherSession, NotServed, BadList, IllFormed}
 use Rattle.delta.specs.declared.admit.Admitted.the-variants.{Yes, No}
-use Rattle.appliance.specs.QueryAll.{Asked, askedBy, goodList, listAdmitted, servedAt, refusedWith, laidOf}
+use Rattle.appliance.specs.QueryAll.{askedBy, goodList, listAdmitted, servedAt, refusedWith, laidOf}
 
 -- the session 7 and the serial 9, in six bytes
 abbrev nine : Bytes

@@ -2,15 +2,16 @@
 use Prim.Native.Nat.{ℕ, suc, _+_, _-_, _*_, _/_, _%_, _^_, _≤_, _<_, min}
 use mathlib.Core.Path.{_≡_, refl, sym, ap, _∙_}
 use mathlib.Core.List.{List, [], _∷_, _++_, foldl, append-assoc}
-use mathlib.Core.Bool.{Bool, true, false, cond, _&&_}
+use mathlib.Core.Bool.{Bool, true, false, cond, and-eq-true-iff}
 use native.Mathlib.Omega.{arith}
 use native.Mathlib.Decide.{ℕ-discrete}
 use mir.Syntax.{w32, w64}
 use mir.Val.{Fits}
 use lib.Dec.{leb, eqb}
-use lib.ListN.{length, getD, set, take, drop, replicate, length-set, length-take, length-drop, length-append, length-replicate, getD-replicate}
+use lib.ListN.{length, getD, set, take, drop, replicate, length-set, length-drop, length-append, length-replicate, getD-replicate}
 use lib.Seq.{take-at, getD-drop, drop-drop, getD-set-same, getD-set-other, set-at, length-take-le}
 use borrow.Author.Tests.{leb-true, eqb-true}
+use Rattle.order.proofs.Never.{never}
 use Rattle.serial.specs.declared.Serial.{Serial}
 use Rattle.serial.specs.declared.Session.{Session}
 use Rattle.serial.specs.Serial.{distanceOf, sessionOf}
@@ -27,27 +28,22 @@ use Rattle.past.specs.declared.state.History.{History}
 use Rattle.past.specs.Store.{heldDeltas}
 use Rattle.past.specs.WellFormed.{wellFormed}
 use Rattle.past.specs.Query.{askAdmitted, passes, mergedLast, queryAt, queryOf, queryOut, queryAdmitted}
-use Rattle.merged.specs.Place.{Stored}
 use Rattle.history.proofs.Asking.{formed-stored, query-within}
 use Rattle.appliance.specs.declared.reply.Reply.{Reply}
 use Rattle.appliance.specs.declared.reply.Replied.{Replied}
 use Rattle.appliance.specs.declared.turn.Known.{Known}
 use Rattle.appliance.specs.declared.turn.Known.the-variants.{Nothing}
 use Rattle.appliance.specs.declared.turn.Turn.{Turn}
-use Rattle.appliance.specs.QueryAll.{Asked, askedIn, askedFirst, askedBy, goodList, listAdmitted, replyOf, usedBy, Laid, answerAt, outFrom, answered, unused, laidOf, noReply, padded, refusedCall, queryAllOf, queryAllOut}
+use Rattle.appliance.specs.QueryAll.{Asked, askedIn, askedFirst, askedBy, goodList, listAdmitted, replyOf, usedBy, Laid, answered, laidOf, noReply, padded, refusedCall, queryAllOf, queryAllOut}
 use Rattle.appliance.specs.Turn.{Remembers, Takes, TurnIs}
-use Rattle.appliance.proofs.Turning.{never, knows-nothing, knows-still}
+use Rattle.appliance.proofs.Turning.{knows-nothing, knows-still}
 
 -- ---- what is admitted
 
-both : (a b : Bool) → (a && b) ≡ true → (a ≡ true) × (b ≡ true)
-both true b e = (refl, e)
-both false b e = never (cc)
-
 passed-both : (t u : Bool) → andThen (passes t IllFormed) (passes u BadList) ≡ Yes → (t ≡ true) × (u ≡ true)
 passed-both true true e = (refl, refl)
-passed-both true false e = never (cc)
-passed-both false u e = never (cc)
+passed-both true false e = never cc
+passed-both false u e = never cc
 
 module _ (h : History) (snapshots deltas queries : Bytes) (e : listAdmitted h snapshots deltas queries ≡ Yes) where
   formed : wellFormed h snapshots deltas ≡ true
@@ -55,7 +51,7 @@ module _ (h : History) (snapshots deltas queries : Bytes) (e : listAdmitted h sn
 
   good : (length queries ≤ 2_304) × (length queries % 6 ≡ 0)
   good =
-      let g = both (leb (length queries) 2_304) (eqb (length queries % 6) 0) (passed-both (wellFormed h snapshots deltas) (goodList queries) e .1) in
+      let g = and-eq-true-iff (leb (length queries) 2_304) (eqb (length queries % 6) 0) .0 (passed-both (wellFormed h snapshots deltas) (goodList queries) e .1) in
       (leb-true (length queries) 2_304 (g .0), eqb-true (length queries % 6) 0 (g .1))
 
 -- ---- the single query in a well formed history

@@ -1,13 +1,11 @@
 -- What is promised of the queries of an appliance, proved of the definition.
-use Prim.Native.Nat.{ℕ, _+_, _-_, _^_, _≤_, _<_}
+use Prim.Native.Nat.{ℕ, _+_, _-_, _≤_, _<_}
 use mathlib.Core.Path.{_≡_, refl, sym, ap, _∙_}
 use mathlib.Core.List.{List, [], _∷_, _++_, foldl}
-use mathlib.Core.Bool.{true}
 use native.Mathlib.Omega.{arith}
 use native.Mathlib.Nat.{zero-add}
 use lib.ListN.{length, getD, take, drop, length-append, length-drop, take-append-drop, List·getD-append}
 use lib.Seq.{take-at, drop-at, take-take, drop-drop, drop-append-add, drop-append-seam, getD-append-seam, length-take-le}
-use Rattle.order.specs.Map.{All}
 use Rattle.serial.specs.declared.Serial.{Serial}
 use Rattle.payload.specs.Content.{Bytes}
 use Rattle.item.specs.declared.sink.Counts.{Counts}
@@ -21,7 +19,7 @@ use Rattle.past.specs.Promise.{Promise}
 use Rattle.past.proofs.Queries.{out-refused, out-whole, counts-served}
 use Rattle.past.proofs.Runs.{promise}
 use Rattle.appliance.specs.declared.reply.Reply.{Reply}
-use Rattle.appliance.specs.QueryAll.{Asked, goodList, listAdmitted, replyOf, usedBy, answerAt, Laid, answered, unused, laidOf}
+use Rattle.appliance.specs.QueryAll.{Asked, replyOf, usedBy, answerAt, Laid, answered, unused, laidOf}
 use Rattle.appliance.specs.Promise.{Each, Refuses, EveryQuery, EveryRefusal, Appliance, EveryAppliance}
 use Rattle.appliance.proofs.Gathering.{out-length, used-within}
 use Rattle.appliance.proofs.Repeating.{part-same}

@@ -1,11 +1,11 @@
 -- Laws of bytes repeated further up in a lent slice.
 use Prim.Native.Nat.{ℕ, suc, _+_, _-_, _<_, _≤_}
 use mathlib.Core.Path.{_≡_, refl, sym, ap, _∙_}
-use mathlib.Core.List.{List, [], _∷_, _++_}
+use mathlib.Core.List.{[], _∷_}
 use native.Mathlib.Omega.{arith}
 use mir.Syntax.{w8}
 use mir.Val.{Fits}
-use lib.ListN.{length, getD, take, drop, set, length-set, length-take, length-drop}
+use lib.ListN.{length, getD, take, drop, set, length-set, length-drop}
 use lib.Seq.{sets, length-sets, take-add, take-take, take-set-le, drop-drop, drop-cons, length-take-le}
 use Rattle.number.specs.Number.{wordAt, wordBytes}
 use Rattle.number.proofs.Numbers.{bytes-of-word}

@@ -7,9 +7,10 @@ use native.Mathlib.Omega.{arith}
 use mir.Syntax.{w64}
 use mir.Val.{Fits}
 use lib.Dec.{leb}
-use lib.ListN.{length, take, drop, length-take, length-drop, take-append-drop, drop-of-length-le}
-use lib.Seq.{sets, sets-eq, length-sets, take-all, take-at, drop-at, drop-drop, take-append-seam, length-take-le}
+use lib.ListN.{length, take, drop, length-drop, take-append-drop, drop-of-length-le}
+use lib.Seq.{sets, sets-eq, length-sets, take-all, drop-at, drop-drop, take-append-seam, length-take-le}
 use borrow.Author.Tests.{leb-true, leb-false, le-leb, lt-leb}
+use Rattle.order.proofs.Never.{never}
 use Rattle.serial.specs.declared.Serial.{Serial}
 use Rattle.serial.specs.declared.Session.{Session}
 use Rattle.payload.specs.Content.{Bytes}
@@ -30,25 +31,23 @@ use Rattle.appliance.specs.declared.reply.Reply.{Reply}
 use Rattle.appliance.specs.declared.turn.Known.{Known}
 use Rattle.appliance.specs.declared.turn.Known.the-variants.{Nothing, Long, Stands}
 use Rattle.appliance.specs.declared.turn.Turn.{Turn}
-use Rattle.appliance.specs.QueryAll.{servedAt, refusedWith}
+use Rattle.appliance.specs.QueryAll.{servedAt}
 use Rattle.appliance.specs.Turn.{Apart, Standing, Remembers, Takes, TurnIs, refusedTurn, Shares, sharedTurn, sharedOut}
 use Rattle.appliance.proofs.Repeating.{take-sets, part-same}
 
 -- two things that differ: from them anything follows
-pub never : {X : Type 0} → _≡_ {A = ℕ} 0 1 → X
-never z = absurd (omega arith)
 
 -- ---- what is known
 
 module _ (b : Bytes) (used : ℕ) (out : Bytes) where
   pub knows-nothing : Remembers b used out Nothing
-  knows-nothing = record { long = λ e. never (cc); stands = λ at c e. never (cc) }
+  knows-nothing = record { long = λ e. never cc; stands = λ at c e. never cc }
 
   knows-long : length out - used < length b → Remembers b used out Long
-  knows-long h = record { long = λ e. h; stands = λ at c e. never (cc) }
+  knows-long h = record { long = λ e. h; stands = λ at c e. never cc }
 
   knows-stands : (at : ℕ) (c : Counts) → Standing b used out at c → Remembers b used out (Stands at c)
-  knows-stands at c s = record { long = λ e. never (cc); stands = λ p d e. let i : at ≡ p = cc in let j : c ≡ d = cc in rw (← i, ← j) s }
+  knows-stands at c s = record { long = λ e. never cc; stands = λ p d e. let i : at ≡ p = cc in let j : c ≡ d = cc in rw (← i, ← j) s }
 
   -- what is known stays true while what was used stays and more is used
   pub knows-still : (k : Known) → Remembers b used out k → (more : ℕ) (after : Bytes) → used ≤ more → length after ≡ length out → take used after ≡ take used out → Remembers b more after k
@@ -116,13 +115,13 @@ module _ (h : History) (d : ℕ) (deltas : Bytes) (used : ℕ) (out : Bytes) (t 
     where
       go : (f : Bool) → leb (length B) (length (drop used out)) ≡ f → (f ≡ true) × (c ≡ countsOf B)
       go true j = let z = sym i ∙ by-test true j in (refl, cc)
-      go false j = let z = sym i ∙ by-test false j in never (cc)
+      go false j = let z = sym i ∙ by-test false j in never cc
 
   refused-long : (r : Refusal) → q .answer ≡ Refused r → leb (length B) (length (drop used out)) ≡ false
   refused-long r i = go (leb (length B) (length (drop used out))) refl
     where
       go : (f : Bool) → leb (length B) (length (drop used out)) ≡ f → f ≡ false
-      go true j = let z = sym i ∙ by-test true j in never (cc)
+      go true j = let z = sym i ∙ by-test true j in never cc
       go false j = refl
 
 -- a part lent up to the end is all that is behind

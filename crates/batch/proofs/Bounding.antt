@@ -2,7 +2,7 @@
 use Prim.Native.Nat.{ℕ, _+_, _-_, _/_, _≤_, _<_}
 use mathlib.Core.Path.{_≡_, refl, sym, _∙_}
 use mathlib.Core.List.{List}
-use mathlib.Core.Bool.{Bool, true, false}
+use mathlib.Core.Bool.{Bool, true}
 use native.Mathlib.Omega.{arith}
 use lib.ListN.{length, getD}
 use Rattle.payload.specs.Content.{Bytes}
@@ -70,9 +70,6 @@ pub ruleset aiming = (aim-start, aim-few, aim-end, aim-low, aim-in, aim-good, ai
 -- ---- bound
 
 module _ (s : Bytes) (stop : ℕ) (l : List ℕ) (h : Hinted s stop l) where
-  pub bound-long : length l ≡ 962
-  bound-long = h .long
-
   pub bound-in : (k : ℕ) → k < 962 → k < length l
   bound-in k f = omega (arith, h .long)
 

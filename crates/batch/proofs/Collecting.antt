@@ -1,17 +1,17 @@
 -- Laws of the walk that collects messages.
-use Prim.Native.Nat.{ℕ, zero, suc, _+_, _*_, _-_, _%_, _^_, _≤_, _<_}
+use Prim.Native.Nat.{ℕ, _+_, _*_, _%_, _^_, _≤_, _<_}
 use mathlib.Core.Path.{_≡_, refl, sym, ap, _∙_, subst}
 use mathlib.Core.List.{List, [], _∷_, _++_, append-assoc, append-nil}
-use mathlib.Core.Bool.{Bool, true, false, not, cond, _&&_}
+use mathlib.Core.Bool.{Bool, true, false, not}
 use native.Mathlib.Omega.{arith}
 use native.Mathlib.Numerals.{add-one}
 use native.Mathlib.Decide.{ℕ-discrete, decLe}
 use mir.Syntax.{w8, w64}
 use mir.Val.{Fits}
 use lib.Dec.{eqb, leb}
-use lib.ListN.{length, getD, take, drop, set, length-set, length-take}
+use lib.ListN.{length, getD, take, set, length-set}
 use lib.Seq.{take-all, take-suc-set, getD-set-same, getD-set-other, getD-take, length-take-le}
-use borrow.Author.Tests.{eqb-true, eqb-false, eq-eqb, ne-eqb, leb-false, lt-leb, le-leb}
+use borrow.Author.Tests.{eqb-true, eq-eqb, ne-eqb, leb-false, lt-leb, le-leb}
 use Rattle.number.specs.Number.{wordAt}
 use Rattle.payload.specs.Content.{Bytes}
 use Rattle.item.specs.Front.{frontKey}
@@ -19,18 +19,17 @@ use Rattle.heard.specs.Place.{Messages, done, more, Payload, typeAt, sizeAt, ke
 use Rattle.heard.specs.Compare.{Of, Alike, FrontOf}
 use Rattle.heard.proofs.Comparing.{front-before, front-behind, six-less, six-greater}
 use Rattle.batch.specs.declared.collect.Part.{Part}
-use Rattle.batch.specs.declared.next.Batch.{Batch}
 use Rattle.sorting.specs.Sorted.{sorted}
 use Rattle.sorting.specs.Sort.{Held, SortedIs, FirstSorted}
 use Rattle.batch.specs.Next.{isAbove, left, NextIs}
-use Rattle.batch.specs.Keep.{only, isUpTo, isWanted, frontOr, wordOr, In, Bound, none, one, Told, Fronts, Sifted, Trims, Trimmed, kept, cut, Meets, MeetsBehind, Passed, Takes, oneMore, Taken, TakesTwo, TakenTwo, TopIs, all, Holds, WalkedTo, walked, Collected}
+use Rattle.batch.specs.Keep.{only, isUpTo, isWanted, frontOr, wordOr, Bound, none, one, Told, Fronts, Sifted, Trims, Trimmed, kept, cut, Meets, MeetsBehind, Passed, Takes, oneMore, Taken, TakesTwo, TakenTwo, TopIs, all, Holds, WalkedTo, walked, Collected}
 use Rattle.batch.specs.Keep as keep
-use Rattle.batch.specs.Map.{Hint, Hinted, Stretch, Chunk, Marked, isChunk, Tops, Clears, Clear}
+use Rattle.batch.specs.Map.{Stretch, Chunk, Marked, isChunk, Tops, Clears, Clear}
 use Rattle.batch.specs.Map as map
 use Rattle.sorting.proofs.Precede.{true≢false, not-above-trans}
-use Rattle.sorting.proofs.Sorting.{All, all-at, all-weak, sorted-mid, length-sorted}
+use Rattle.sorting.proofs.Sorting.{All, sorted-mid, length-sorted}
 use Rattle.batch.proofs.Sorting.{Growing, all-in, only-sorted}
-use Rattle.batch.proofs.Keeping.{size-some, messages-ahead, messages-from, messages-grow, messages-good, messages-append, messages-same, Sub, keep-one, sub-none, sub-first, sub-behind, sub-past, all-sub, growing-sub, in-all, in-append, wanted-is, wanted-all, wanted-not, wanted-past, messages-split, only-in, only-out, only-append, only-clear, upto-all, upto-self, only-length, only-same, above-only, fall-top, lower-again, part-first, part-shorter}
+use Rattle.batch.proofs.Keeping.{size-some, messages-ahead, messages-from, messages-grow, messages-good, messages-append, messages-same, First, messages-first, Sub, keep-one, sub-none, sub-first, sub-behind, sub-past, all-sub, growing-sub, in-all, wanted-is, wanted-all, wanted-not, wanted-past, messages-split, only-in, only-out, only-append, only-clear, upto-self, only-length, only-same, above-only, fall-top, lower-again, part-first, part-shorter}
 
 -- ---- is_above, is_up_to, is_wanted
 
@@ -427,29 +426,15 @@ module _ (s : Bytes) (stop : ℕ) (xs : List ℕ) (w : Messages s 8 xs stop) (lo
         top-is : TopIs s xs low (getD m 4_499 0)
         top-is = rw m-is (widen (fall-top s low (p .top) (u ++ (at ∷ v)) grows from 4_499 fall-in))
 
-first-good : {s : Bytes} {at stop : ℕ} {xs : List ℕ} → Messages s at xs stop → at < stop → Payload s at
-first-good done h = absurd (omega arith)
-first-good (more p m) h = p
-
--- the messages behind the first
-record Past (s : Bytes) (at stop : ℕ) (xs : List ℕ) : Type 0 where
-  rest : List ℕ
-  ahead : Messages s (at + sizeAt s at) rest stop
-  is : xs ≡ at ∷ rest
-
-past : {s : Bytes} {at stop : ℕ} {xs : List ℕ} → Messages s at xs stop → at < stop → Past s at stop xs
-past done h = absurd (omega arith)
-past (more {xs = xs} p m) h = record { rest = xs; ahead = m; is = refl }
-
 -- ---- behind
 
 module _ (s : Bytes) (at over : ℕ) (t : Stretch s at over) (h : at < over) where
   pub behind-good : Payload s at
-  behind-good = first-good (t .messages) h
+  behind-good = messages-first (t .messages) h .good
 
   module _ (size : ℕ) (e : size ≡ sizeAt s at) where
     pub behind-add : Fits w64 over → Fits w64 (at + size)
-    behind-add f = record { fits = omega (arith, e, messages-ahead (past (t .messages) h .ahead), f .fits) }
+    behind-add f = record { fits = omega (arith, e, messages-ahead (messages-first (t .messages) h .ahead), f .fits) }
 
     pub behind-more : at < at + size
     behind-more = omega (arith, e, size-some s at behind-good)
@@ -469,20 +454,20 @@ module _ (s : Bytes) (stop low over : ℕ) (l : List ℕ) (p : Part) (at : ℕ) 
   walk-stretch (walks r t w) = t
 
   pub walk-takes : Walking s stop low over l p at → at < over → Takes s low at l p
-  walk-takes (walks (walked ps rest m n k) t w) h = hold-takes s stop (ps ++ rest) (messages-append m n) low l p ps k at (first-good (t .messages) h)
+  walk-takes (walks (walked ps rest m n k) t w) h = hold-takes s stop (ps ++ rest) (messages-append m n) low l p ps k at (messages-first (t .messages) h .good)
 
   pub walk-again : Walking s stop low over l p at → at < over → (next : ℕ) → next ≡ at + sizeAt s at → (m : List ℕ) (q : Part) → Taken s low at l p m q → Walking s stop low over m q next
   walk-again (walks (walked ps rest x y k) t w) h next e m q d = rw e (walks
       (walked (ps ++ (at ∷ [])) (b .rest) (messages-append x (more good done)) (b .ahead)
       (rw same (hold-more s stop (ps ++ rest) (messages-append x y) low l p ps [] (rw (append-nil ps) k) at good here m q d)))
-      (record { xs = past (t .messages) h .rest; messages = past (t .messages) h .ahead })
+      (record { xs = messages-first (t .messages) h .rest; messages = messages-first (t .messages) h .ahead })
       w)
     where
       good : Payload s at
-      good = first-good (t .messages) h
+      good = messages-first (t .messages) h .good
 
-      b : Past s at stop rest
-      b = past y (omega arith)
+      b : First s at stop rest
+      b = messages-first y (omega arith)
 
       same : (ps ++ (at ∷ [])) ++ b .rest ≡ ps ++ rest
       same = append-assoc ps (at ∷ []) (b .rest) ∙ ap (λ (z : List ℕ). ps ++ z) (sym (b .is))
@@ -564,10 +549,10 @@ module _ (s : Bytes) (stop low mid over : ℕ) (l : List ℕ) (p : Part) (a b : 
     }
       where
         good : Payload s a
-        good = first-good (t .between) h
+        good = messages-first (t .between) h .good
 
-        c : Past s a mid (t .mids)
-        c = past (t .between) h
+        c : First s a mid (t .mids)
+        c = messages-first (t .between) h
 
         same : (t .ps ++ (a ∷ [])) ++ (c .rest ++ (t .bs ++ t .rest)) ≡ t .ps ++ (t .mids ++ (t .bs ++ t .rest))
         same = append-assoc (t .ps) (a ∷ []) (c .rest ++ (t .bs ++ t .rest)) ∙ ap (λ (y : List ℕ). t .ps ++ (y ++ (t .bs ++ t .rest))) (sym (c .is))
@@ -588,17 +573,17 @@ module _ (s : Bytes) (stop low mid over : ℕ) (l : List ℕ) (p : Part) (a b : 
       between = t .between;
       half = messages-append (t .half) (more good done);
       ahead = c .ahead;
-      stretch = record { xs = past (t .stretch .messages) h .rest; messages = past (t .stretch .messages) h .ahead };
+      stretch = record { xs = messages-first (t .stretch .messages) h .rest; messages = messages-first (t .stretch .messages) h .ahead };
       within = t .within;
       holds = rw (same, ← append-assoc (t .ps) (t .bs) (b ∷ []))
           (hold-more s stop (t .ps ++ (t .mids ++ (t .bs ++ t .rest))) all-of low l p (t .ps ++ t .bs) [] (rw (append-nil (t .ps ++ t .bs)) (t .holds)) b good here m q k);
     }
       where
         good : Payload s b
-        good = first-good (t .stretch .messages) h
+        good = messages-first (t .stretch .messages) h .good
 
-        c : Past s b stop (t .rest)
-        c = past (t .ahead) (omega (arith, t .within))
+        c : First s b stop (t .rest)
+        c = messages-first (t .ahead) (omega (arith, t .within))
 
         same : (t .bs ++ (b ∷ [])) ++ c .rest ≡ t .bs ++ t .rest
         same = append-assoc (t .bs) (b ∷ []) (c .rest) ∙ ap (λ (y : List ℕ). t .bs ++ y) (sym (c .is))
@@ -613,10 +598,10 @@ module _ (s : Bytes) (stop low mid over : ℕ) (l : List ℕ) (p : Part) (a b : 
   first-stretch (halves t) = record { xs = t .mids; messages = t .between }
 
   pub first-takes : Halving s stop low mid over l p a b → a < mid → Takes s low a l p
-  first-takes (halves t) h = half-takes s stop low mid over l p a b t a (first-good (t .between) h)
+  first-takes (halves t) h = half-takes s stop low mid over l p a b t a (messages-first (t .between) h .good)
 
   pub both-takes : Halving s stop low mid over l p a b → a < mid → b < over → TakesTwo s low a b l p
-  both-takes (halves t) h k = keep.TakesTwo.both (half-takes s stop low mid over l p a b t a (first-good (t .between) h)) (first-good (t .stretch .messages) k)
+  both-takes (halves t) h k = keep.TakesTwo.both (half-takes s stop low mid over l p a b t a (messages-first (t .between) h .good)) (messages-first (t .stretch .messages) k .good)
 
   pub first-again : Halving s stop low mid over l p a b → a < mid → (x : ℕ) → x ≡ a + sizeAt s a → (m : List ℕ) (q : Part) → Taken s low a l p m q → Halving s stop low mid over m q x b
   first-again (halves t) h x e m q k = rw e (halves (first-halved s stop low mid over l p a b t h m q k))

@@ -1,22 +1,21 @@
 -- Laws of what is kept: the messages behind `low` and not behind `top`.
-use Prim.Native.Nat.{ℕ, zero, suc, _+_, _-_, _≤_, _<_}
+use Prim.Native.Nat.{ℕ, zero, suc, _+_, _≤_, _<_}
 use mathlib.Core.Path.{_≡_, refl, sym, ap, _∙_}
 use mathlib.Core.List.{List, [], _∷_, _++_}
-use mathlib.Core.Bool.{Bool, true, false, not, cond, _&&_}
+use mathlib.Core.Bool.{Bool, true, false, not, cond, and-eq-true-iff, and-true, and-false}
 use native.Mathlib.Omega.{arith}
 use native.Mathlib.Decide.{ℕ-discrete}
-use lib.Dec.{eqb}
-use lib.ListN.{length, getD, take, drop, length-append}
-use borrow.Author.Tests.{eqb-true, eqb-false, eq-eqb, ne-eqb, not-true}
+use lib.ListN.{length, getD, take}
+use borrow.Author.Tests.{ne-eqb, not-true}
 use Rattle.payload.specs.Content.{Bytes}
 use Rattle.heard.specs.Place.{Messages, done, more, Payload, Sized, v4, v6, key, sizeAt, precedes}
 use Rattle.sorting.specs.Sorted.{sorted}
 use Rattle.batch.specs.Next.{isAbove, above, left}
-use Rattle.batch.specs.Keep.{only, isUpTo, isWanted, In, here, there, Bound, none, one, TopIs, all}
+use Rattle.batch.specs.Keep.{only, isUpTo, isWanted, In, here, there, one, TopIs}
 use Rattle.batch.specs.Keep as keep
 use Rattle.batch.specs.Map.{Stretch}
 use Rattle.sorting.proofs.Precede.{true≢false, not-above-trans, never-self}
-use Rattle.sorting.proofs.Sorting.{All, nil, cons, all-at, all-sorted, all-weak, climbing-sorted, sorted-fixed, length-sorted}
+use Rattle.sorting.proofs.Sorting.{All, nil, cons, all-at, all-sorted, all-weak, climbing-sorted, sorted-fixed}
 use Rattle.batch.proofs.Sorting.{all-only, all-in, only-sorted, Rising, rising-only, rising-sorted, upto-take, upto-first, only-shorter, Growing, flat, up}
 
 -- ---- messages by their offsets
@@ -56,6 +55,17 @@ module _ {s : Bytes} where
   messages-same done (more {at} p m) = absurd (omega (arith, messages-ahead m, size-some s at p))
   messages-same (more {at} p m) done = absurd (omega (arith, messages-ahead m, size-some s at p))
   messages-same (more {at} p m) (more q n) = ap (λ (l : List ℕ). at ∷ l) (messages-same m n)
+
+-- the first of them, and those behind it
+pub record First (s : Bytes) (at stop : ℕ) (xs : List ℕ) : Type 0 where
+  pub good : Payload s at
+  pub rest : List ℕ
+  pub ahead : Messages s (at + sizeAt s at) rest stop
+  pub is : xs ≡ at ∷ rest
+
+pub messages-first : {s : Bytes} {at stop : ℕ} {xs : List ℕ} → Messages s at xs stop → at < stop → First s at stop xs
+messages-first done h = absurd (omega arith)
+messages-first (more {xs = xs} p m) h = record { good = p; rest = xs; ahead = m; is = refl }
 
 -- messages that stop earlier leave the others ahead
 pub record Split (s : Bytes) (at stop : ℕ) : Type 0 where
@@ -125,22 +135,14 @@ in-behind (y ∷ l) i = there (in-behind l i)
 
 -- ---- tests
 
-and-left : (a b : Bool) → (a && b) ≡ true → a ≡ true
-and-left true b e = refl
-and-left false b e = true≢false e refl
-
-and-right : (a b : Bool) → (a && b) ≡ true → b ≡ true
-and-right true b e = e
-and-right false b e = true≢false e refl
-
 module _ (s : Bytes) where
   pub wanted-above : (low top x : ℕ) → isWanted s low top x ≡ true → isAbove s low x ≡ true
   unfolding isWanted
-  wanted-above low top x e = and-left (isAbove s low x) (isUpTo s top x) e
+  wanted-above low top x e = and-eq-true-iff (isAbove s low x) (isUpTo s top x) .0 e .0
 
   wanted-upto : (low top x : ℕ) → isWanted s low top x ≡ true → isUpTo s top x ≡ true
   unfolding isWanted
-  wanted-upto low top x e = and-right (isAbove s low x) (isUpTo s top x) e
+  wanted-upto low top x e = and-eq-true-iff (isAbove s low x) (isUpTo s top x) .0 e .1
 
   pub wanted-is : (low top x : ℕ) → isAbove s low x ≡ true → isUpTo s top x ≡ true → isWanted s low top x ≡ true
   unfolding isWanted
@@ -152,19 +154,11 @@ module _ (s : Bytes) where
 
   pub wanted-past : (low top x : ℕ) → isUpTo s top x ≡ false → isWanted s low top x ≡ false
   unfolding isWanted
-  wanted-past low top x e = rw e (go (isAbove s low x))
-    where
-      go : (a : Bool) → (a && false) ≡ false
-      go true = refl
-      go false = refl
+  wanted-past low top x e = rw e (and-false (isAbove s low x))
 
   pub wanted-all : (low x : ℕ) → isWanted s low 0 x ≡ isAbove s low x
   unfolding isWanted isUpTo
-  wanted-all low x = go (isAbove s low x)
-    where
-      go : (a : Bool) → (a && true) ≡ a
-      go true = refl
-      go false = refl
+  wanted-all low x = and-true (isAbove s low x)
 
   pub upto-all : (x : ℕ) → isUpTo s 0 x ≡ true
   unfolding isUpTo
@@ -192,10 +186,7 @@ module _ (s : Bytes) where
       go (yes z) = upto-zero top x z
       go (no z) =
           upto-is top x z
-          ∙ ap not (not-above-trans s x t top (flip (precedes s t x) (sym (upto-is t x n) ∙ f)) (flip (precedes s top t) (sym (upto-is top t z) ∙ e)))
-        where
-          flip : (b : Bool) → not b ≡ true → b ≡ false
-          flip b q = not-true b q
+          ∙ ap not (not-above-trans s x t top (not-true (precedes s t x) (sym (upto-is t x n) ∙ f)) (not-true (precedes s top t) (sym (upto-is top t z) ∙ e)))
 
 -- ---- parts of a list by tests
 

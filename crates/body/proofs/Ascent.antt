@@ -2,7 +2,7 @@
 use Prim.Native.Nat.{ℕ, suc, _+_, _-_, _%_, _<_, _≤_}
 use mathlib.Core.Path.{_≡_, refl, ap, sym, _∙_}
 use mathlib.Core.List.{List, [], _∷_}
-use mathlib.Core.Bool.{Bool, true, false, cond, not, _&&_}
+use mathlib.Core.Bool.{Bool, true, false, cond, not, _&&_, and-false}
 use native.Mathlib.Numerals.{add-one, add-two, add-three, add-four}
 use native.Mathlib.Omega.{arith}
 use borrow.Author.Tests.{lt-ltb, le-ltb, eq-eqb, ne-eqb}
@@ -88,14 +88,10 @@ pub record Sounded (s : List ℕ) (c before : Asn) (left : ℕ) : Type 0 where
   pub whole : left % 4 ≡ 0
   pub rest : ascendingFrom (before .0) (asns (drop (length s - left) s)) && not (isIn (c .0) (asns (drop (length s - left) s))) ≡ soundAsns (c .0) (asns s)
 
-false-right : (x : Bool) → false ≡ x && false
-false-right true = refl
-false-right false = refl
-
 -- none of no bytes makes sense
 pub senseless-none : (s : List ℕ) (c : ℕ) (x : Bool) → length s < 4 → false ≡ x && sensibleAsns c (asns s)
 unfolding sensibleAsns
-senseless-none s c x h = rw (short s h) (false-right x)
+senseless-none s c x h = rw (short s h) (sym (and-false x))
 
 -- something is left where the list is not sound
 left-some : (n : ℕ) (t : Bool) → 0 < n → false ≡ t → Leaves n t
@@ -111,7 +107,7 @@ module _ (s : List ℕ) (c : Asn) (h : 4 ≤ length s) where
     sounded-first d =
         let k : fourAt s 0 ≡ c .0 = rw e at d in
         left-some (length s) _ (omega arith)
-        (rw (asns-at s 0 h, eq-eqb (fourAt s 0) (c .0) k) (false-right (ascending (fourAt s 0 ∷ asns (drop 4 s)))))
+        (rw (asns-at s 0 h, eq-eqb (fourAt s 0) (c .0) k) (sym (and-false (ascending (fourAt s 0 ∷ asns (drop 4 s))))))
 
     pub sounded-start : length s % 4 ≡ 0 → (x .0 ≡ c .0 → ⊥) → Sounded s c x (length s - 4)
     unfolding soundAsns ascending sensibleAsns isIn
@@ -154,7 +150,7 @@ module _ (s : List ℕ) (c before : Asn) (left : ℕ) (l : Sounded s c before le
           let k : fourAt s (length s - left) ≡ c .0 = rw e at d in
           left-some left _ (omega (arith, sounded-four))
           (rw (← l .rest, asns-at s (length s - left) sounded-next, eq-eqb (fourAt s (length s - left)) (c .0) k)
-          (false-right (ascendingFrom (before .0) (fourAt s (length s - left) ∷ asns (drop (length s - left + 4) s)))))
+          (sym (and-false (ascendingFrom (before .0) (fourAt s (length s - left) ∷ asns (drop (length s - left + 4) s))))))
 
       pub sounded-more : before .0 < x .0 → (x .0 ≡ c .0 → ⊥) → Sounded s c x (left - 4)
       unfolding ascendingFrom isIn

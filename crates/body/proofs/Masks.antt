@@ -2,7 +2,7 @@
 use Prim.Native.Nat.{ℕ, zero, suc, _+_, _-_, _*_, _%_, _^_, _<_, _≤_}
 use mathlib.Core.Path.{_≡_, refl, sym, ap, _∙_}
 use mathlib.Core.List.{List, [], _∷_, _++_}
-use mathlib.Core.Bool.{Bool, true, false, _&&_}
+use mathlib.Core.Bool.{Bool, true, false, _&&_, and-false}
 use native.Mathlib.Decide.{decLt}
 use native.Mathlib.Nat.{zero-mod, mod-one, mod-eq-of-lt, mul-add-mod-self-right, mul-assoc, mul-div-cancel, mul-mod-left}
 use native.Mathlib.Omega.{arith}
@@ -77,10 +77,6 @@ true-right : (b : Bool) → b && true ≡ b
 true-right true = refl
 true-right false = refl
 
-false-right : (b : Bool) → b && false ≡ false
-false-right true = refl
-false-right false = refl
-
 -- a shift leaves what lies past the prefix
 shift-zero : (x p : ℕ) → p ≤ 64 → eqb ((x * 2 ^ p) % 2 ^ 64) 0 ≡ eqb (x % 2 ^ (64 - p)) 0
 shift-zero x p h =
@@ -97,7 +93,7 @@ module _ (p high low : ℕ) where
   unfolding cleanHalves
   halves-low w k n =
       let z : 64 - (p - 64) ≡ 64 = omega arith in
-      rw (z, mod-eq-of-lt (w .fits), ne-eqb low 0 n) (sym (false-right (eqb (high % 2 ^ (64 - p)) 0)))
+      rw (z, mod-eq-of-lt (w .fits), ne-eqb low 0 n) (sym (and-false (eqb (high % 2 ^ (64 - p)) 0)))
 
   pub halves-high : p < 64 → low ≡ 0 → eqb ((high * 2 ^ p) % 2 ^ 64) 0 ≡ cleanHalves p high low
   unfolding cleanHalves

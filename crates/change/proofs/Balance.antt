@@ -2,14 +2,15 @@
 use mathlib.Core.Path.{_≡_, refl, ap, _∙_}
 use mathlib.Core.List.{[], _∷_}
 use mathlib.Core.Option.{none, some}
-use mathlib.Core.Bool.{Bool, true, false}
-use Prim.Native.Nat.{ℕ, _+_}
+use mathlib.Core.Bool.{Bool, true}
+use Prim.Native.Nat.{_+_}
 use native.Mathlib.Omega.{arith}
 use Rattle.order.specs.declared.Ordering.{Ordering}
 use Rattle.order.specs.declared.Ordering.the-variants.{Less, Equal, Greater}
 use Rattle.order.specs.Comparison.{flip, TotalOrder}
 use Rattle.order.specs.Map.{Item, own, lookup, Below, Sorted}
 use Rattle.order.specs.Walk.{emit}
+use Rattle.order.proofs.Never.{never}
 use Rattle.order.proofs.Map.{absent, absent-at}
 use Rattle.order.proofs.Walk.{walk-nil, walk-right, walk-less, walk-equal, walk-greater}
 use Rattle.change.specs.Change.{Change, announce, withdraw, update}
@@ -18,9 +19,6 @@ use Rattle.change.specs.Application.{applyAt, fits, fitsAt, apply, Appli
 use Rattle.change.specs.Balance.{ofKind, brought, taken}
 use Rattle.change.proofs.Whole.{apply-none}
 use Rattle.change.proofs.Items.{applies-head, applies-tail}
-
-unfit : {X : Type 0} → false ≡ true → X
-unfit e = absurd (let z : _≡_ {A = ℕ} 0 1 = cc in omega arith)
 
 module _ {K W : Type 0} {cmp : K → K → Ordering} (O : TotalOrder cmp) (val : W → W → Ordering) where
   -- without a held item below the delta
@@ -42,14 +40,14 @@ module _ {K W : Type 0} {cmp : K → K → Ordering} (O : TotalOrder cmp) (val :
         ofKind kind R + taken kind D ≡ ofKind kind A + brought kind D →
         ofKind kind (emit k (applyAt none (some d)) R) + taken kind (record { key = k; val = d } ∷ D) ≡ ofKind kind A + brought kind (record { key = k; val = d } ∷ D)
     new A R k (announce n) D f i = omega arith
-    new A R k (withdraw p) D f i = unfit f
-    new A R k (update p n) D f i = unfit f
+    new A R k (withdraw p) D f i = never cc
+    new A R k (update p n) D f i = never cc
 
     old : (A R : Snapshot K W) (k : K) (v : W) (d : Change W) (D : Delta K W) → fits val (some v) d ≡ true →
         ofKind kind R + taken kind D ≡ ofKind kind A + brought kind D →
         ofKind kind (emit k (applyAt (some v) (some d)) R) + taken kind (record { key = k; val = d } ∷ D) ≡
         ofKind kind (record { key = k; val = v } ∷ A) + brought kind (record { key = k; val = d } ∷ D)
-    old A R k v (announce n) D f i = unfit f
+    old A R k v (announce n) D f i = never cc
     old A R k v (withdraw p) D f i = omega arith
     old A R k v (update p n) D f i = omega arith
 

@@ -13,7 +13,7 @@ use Rattle.change.specs.Merge.{mergeAt, merge, mergeAll}
 use Rattle.change.specs.Application.{apply, Applies}
 use Rattle.change.specs.History.{newest}
 use Rattle.change.specs.Held.{nth, diffs}
-use Rattle.change.proofs.Whole.{diff-sorted, diff-nil, compose, yields, applies}
+use Rattle.change.proofs.Whole.{diff-nil, compose, yields, applies}
 
 -- a property of all snapshots of a chain is one of its newest, of its i-th, and of all behind that
 module _ {S : Type 0} (P : S → Type 0) where
@@ -32,11 +32,6 @@ module _ {S : Type 0} (P : S → Type 0) where
   all-drop (suc i) (T ∷ Ts) h = all-drop i Ts (h .1)
 
 module _ {K W : Type 0} {cmp : K → K → Ordering} (O : TotalOrder cmp) {val : W → W → Ordering} (P : TotalOrder val) where
-  pub diffs-sorted : (S : Snapshot K W) (Ts : List (Snapshot K W)) → Sorted cmp S → All (Sorted cmp) Ts →
-      All (Sorted cmp) (diffs cmp val S Ts)
-  diffs-sorted S [] s h = tt
-  diffs-sorted S (T ∷ Ts) s h = (diff-sorted O P S T s (h .0), diffs-sorted T Ts (h .0) (h .1))
-
   -- begun at an earlier snapshot
   chain-from : (A S : Snapshot K W) (Ts : List (Snapshot K W)) → Sorted cmp A → Sorted cmp S → All (Sorted cmp) Ts →
       foldl (merge cmp val) (diff cmp val A S) (diffs cmp val S Ts) ≡ diff cmp val A (newest S Ts)

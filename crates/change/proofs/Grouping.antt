@@ -1,11 +1,10 @@
 -- Merges along a chain of snapshots come to the same in whatever way they are grouped.
 use mathlib.Core.Path.{_≡_, refl, sym, ap, _∙_}
 use mathlib.Core.List.{List, [], _∷_, _++_}
-use Prim.Native.Nat.{ℕ}
-use native.Mathlib.Omega.{arith}
 use Rattle.order.specs.declared.Ordering.{Ordering}
 use Rattle.order.specs.Comparison.{TotalOrder}
 use Rattle.order.specs.Map.{All, Sorted}
+use Rattle.order.proofs.Never.{never}
 use Rattle.change.specs.Difference.{Snapshot, Delta, diff}
 use Rattle.change.specs.Merge.{merge}
 use Rattle.change.specs.History.{newest}
@@ -25,7 +24,7 @@ module _ {S D : Type 0} (difference : S → S → D) where
 
   cut : (A : S) (Ts : List S) (u v : List D) → u ++ v ≡ steps difference A Ts → Cut A Ts u v
   cut A Ts [] v e = record { left = []; right = Ts; join = refl; first = refl; rest = e }
-  cut A [] (d ∷ u) v e = absurd (let z : _≡_ {A = ℕ} 0 1 = cc in omega arith)
+  cut A [] (d ∷ u) v e = never cc
   cut A (T ∷ Ts) (d ∷ u) v e =
       let c : Cut T Ts u v = cut T Ts u v (cc) in
       record { left = T ∷ c .left; right = c .right; join = cc (c .join); first = cc (c .first); rest = c .rest }
@@ -49,9 +48,9 @@ module _ {S D : Type 0} (difference : S → S → D) (merge : D → D → D) (Go
   -- every grouping of a chain's differences, merged, is the difference of its ends
   pub tree-ends : (g : Grouping D) (A : S) (Ts : List S) → Good A → All Good Ts → leaves g ≡ steps difference A Ts →
       mergeTree merge g ≡ difference A (newest A Ts)
-  tree-ends (alone d) A [] s h e = absurd (let z : _≡_ {A = ℕ} 0 1 = cc in omega arith)
+  tree-ends (alone d) A [] s h e = never cc
   tree-ends (alone d) A (T ∷ []) s h e = cc
-  tree-ends (alone d) A (T ∷ U ∷ Ts) s h e = absurd (let z : _≡_ {A = ℕ} 0 1 = cc in omega arith)
+  tree-ends (alone d) A (T ∷ U ∷ Ts) s h e = never cc
   tree-ends (grouped l r) A Ts s h e =
       let c : Cut difference A Ts (leaves l) (leaves r) = cut difference A Ts (leaves l) (leaves r) e in
       let k : All Good (c .left ++ c .right) = rw (c .join) h in

@@ -25,7 +25,8 @@ module _ {A : Type 0} where
   pub lastN-lastN : (m n : ℕ) (l : List A) → m ≤ n → lastN m (lastN n l) ≡ lastN m l
   lastN-lastN m n l h = lastN-drop m (length l - n) l (omega arith)
 
-  lastN-push : (n : ℕ) (l : List A) (x : A) → lastN n (lastN n l ++ (x ∷ [])) ≡ lastN n (l ++ (x ∷ []))
+  -- what is no longer among the last does not come back
+  pub lastN-push : (n : ℕ) (l : List A) (x : A) → lastN n (lastN n l ++ (x ∷ [])) ≡ lastN n (l ++ (x ∷ []))
   lastN-push n l x =
       rw (← drop-append-le (length l - n) l (x ∷ []) (omega arith))
       (lastN-drop n (length l - n) (l ++ (x ∷ [])) (omega (arith, length-append l (x ∷ []))))

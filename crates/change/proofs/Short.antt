@@ -2,7 +2,7 @@
 use mathlib.Core.Path.{_≡_, refl, sym, ap, _∙_}
 use mathlib.Core.List.{List, [], _∷_, map}
 use mathlib.Core.Option.{Option, none, some}
-use mathlib.Core.Bool.{true, false}
+use mathlib.Core.Bool.{true}
 use Prim.Native.Nat.{ℕ, _+_, _≤_}
 use native.Mathlib.Omega.{arith}
 use lib.ListN.{length}
@@ -10,6 +10,7 @@ use Rattle.order.specs.declared.Ordering.{Ordering}
 use Rattle.order.specs.declared.Ordering.the-variants.{Less, Equal, Greater}
 use Rattle.order.specs.Comparison.{flip, TotalOrder}
 use Rattle.order.specs.Map.{Item, lookup, Sorted}
+use Rattle.order.proofs.Never.{never}
 use Rattle.order.proofs.Map.{none≢some, absent, absent-at}
 use Rattle.change.specs.Change.{Change, announce, withdraw, update, unlessEqual}
 use Rattle.change.specs.Difference.{Snapshot, Delta, diffAt, diff}
@@ -92,21 +93,18 @@ module _ {W : Type 0} {cmp : W → W → Ordering} (P : TotalOrder cmp) where
   fits-same v p = go (cmp v p) refl
     where
       go : (o : Ordering) → cmp v p ≡ o → isEqual o ≡ true → v ≡ p
-      go Less c e = absurd (let z : _≡_ {A = ℕ} 0 1 = cc in omega arith)
+      go Less c e = never cc
       go Equal c e = P .same v p c
-      go Greater c e = absurd (let z : _≡_ {A = ℕ} 0 1 = cc in omega arith)
-
-  unfit : {X : Type 0} → false ≡ true → X
-  unfit e = absurd (let z : _≡_ {A = ℕ} 0 1 = cc in omega arith)
+      go Greater c e = never cc
 
   -- a change that fits, where the difference of before and after has one, is that one
   pub needed : (a : Option W) (d : Option (Change W)) (c : Change W) → fitsAt cmp a d ≡ true → diffAt cmp a (applyAt a d) ≡ some c → d ≡ some c
   needed none none c f e = e
   needed none (some (announce n)) c f e = e
-  needed none (some (withdraw p)) c f e = unfit f
-  needed none (some (update p n)) c f e = unfit f
+  needed none (some (withdraw p)) c f e = never cc
+  needed none (some (update p n)) c f e = never cc
   needed (some v) none c f e = none≢some (diff-self P (some v)) e
-  needed (some v) (some (announce n)) c f e = unfit f
+  needed (some v) (some (announce n)) c f e = never cc
   needed (some v) (some (withdraw p)) c f e = cc (fits-same v p f)
   needed (some v) (some (update p n)) c f e = go (cmp v n) e
     where

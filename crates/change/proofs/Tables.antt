@@ -2,28 +2,19 @@
 use mathlib.Core.Path.{_≡_, refl, _∙_}
 use mathlib.Core.Option.{Option, none, some}
 use mathlib.Core.Bool.{true}
-use Prim.Native.Nat.{ℕ}
-use native.Mathlib.Omega.{arith}
 use Rattle.order.specs.declared.Ordering.{Ordering}
 use Rattle.order.specs.declared.Ordering.the-variants.{Less, Equal, Greater}
 use Rattle.order.specs.Comparison.{TotalOrder}
+use Rattle.order.proofs.Never.{never}
 use Rattle.change.specs.Change.{Change, announce, withdraw, update, unlessEqual, replace}
 use Rattle.change.specs.Difference.{diffAt}
 use Rattle.change.specs.Merge.{mergeAt}
 use Rattle.change.specs.Application.{applyAt, fitsAt}
 
 module _ {W : Type 0} {cmp : W → W → Ordering} (P : TotalOrder cmp) where
-  -- equal values are no change, others are
+  -- equal values are no change
   pub replace-same : (p n : W) → p ≡ n → replace cmp p n ≡ none
   replace-same p n e = rw (e, P .self n)
-
-  pub replace-other : (p n : W) → ¬ (p ≡ n) → replace cmp p n ≡ some (update p n)
-  replace-other p n h = go (cmp p n) refl
-    where
-      go : (o : Ordering) → cmp p n ≡ o → unlessEqual o (update p n) ≡ some (update p n)
-      go Less e = refl
-      go Equal e = absurd (h (P .same p n e))
-      go Greater e = refl
 
   pub merge-none : (c : Option (Change W)) → mergeAt cmp none c ≡ c
   merge-none none = refl
@@ -127,8 +118,8 @@ module _ {W : Type 0} {cmp : W → W → Ordering} (P : TotalOrder cmp) where
       diffAt cmp none (applyAt a c) ≡ mergeAt cmp (diffAt cmp none a) c
   apply-is-merge none none h = refl
   apply-is-merge none (some (announce n)) h = refl
-  apply-is-merge none (some (withdraw p)) h = absurd (let z : _≡_ {A = ℕ} 0 1 = cc in omega arith)
-  apply-is-merge none (some (update p n)) h = absurd (let z : _≡_ {A = ℕ} 0 1 = cc in omega arith)
+  apply-is-merge none (some (withdraw p)) h = never cc
+  apply-is-merge none (some (update p n)) h = never cc
   apply-is-merge (some v) none h = refl
   apply-is-merge (some v) (some (announce n)) h = refl
   apply-is-merge (some v) (some (withdraw p)) h = refl

@@ -10,6 +10,7 @@ use lib.Dec.{leb}
 use lib.ListN.{length}
 use Rattle.order.specs.Comparison.{bytes}
 use Rattle.order.specs.Map.{All, lookup}
+use Rattle.order.proofs.Never.{never}
 use Rattle.order.proofs.Comparison.{strings}
 use Rattle.change.specs.Difference as change
 use Rattle.change.specs.Application.{fits, apply, Applies}
@@ -56,22 +57,22 @@ use Rattle.item.proofs.Putting.{counts-path}
 
 -- ---- what was admitted is good, and within its limit
 
-both-yes : (x y : Admitted) → andThen x y ≡ Yes → (x ≡ Yes) × (y ≡ Yes)
+pub both-yes : (x y : Admitted) → andThen x y ≡ Yes → (x ≡ Yes) × (y ≡ Yes)
 both-yes Yes y e = (refl, e)
-both-yes (No r) y e = absurd (let z : _≡_ {A = ℕ} 0 1 = cc in omega arith)
+both-yes (No r) y e = never cc
 
 limit-yes : (form : Form) (s : Bytes) (n : ℕ) → limitAdmitted form s n ≡ Yes → length s ≤ limit form
 limit-yes form s n = go (leb (length s) (limit form)) refl
   where
     go : (t : Bool) → leb (length s) (limit form) ≡ t → cond t Yes (No (refusal.TooLong n)) ≡ Yes → length s ≤ limit form
     go true e h = leb-true (length s) (limit form) e
-    go false e h = absurd (let z : _≡_ {A = ℕ} 0 1 = cc in omega arith)
+    go false e h = never cc
 
 judged-yes : (n : ℕ) (v : Verdict) → verdictAdmitted n v ≡ Yes → v ≡ verdict.Fine
 judged-yes n verdict.Fine e = refl
-judged-yes n (verdict.Bad at) e = absurd (let z : _≡_ {A = ℕ} 0 1 = cc in omega arith)
-judged-yes n (verdict.Senseless at) e = absurd (let z : _≡_ {A = ℕ} 0 1 = cc in omega arith)
-judged-yes n (verdict.NotAbove at) e = absurd (let z : _≡_ {A = ℕ} 0 1 = cc in omega arith)
+judged-yes n (verdict.Bad at) e = never cc
+judged-yes n (verdict.Senseless at) e = never cc
+judged-yes n (verdict.NotAbove at) e = never cc
 
 pub admitted-inputs : (f : Form) (a : Bytes) (g : Form) (b : Bytes) → admitOf f a g b ≡ Yes → Inputs f a g b
 admitted-inputs f a g b e =
@@ -134,7 +135,7 @@ all-fit A at (c ∷ cs) e = go (fits bytes (lookup bytes (entryOf Delta c .key) 
         ((n : ℕ) → misfit A n cs ≡ fit.All → All (ItemFits strings bytes A) (map (entryOf Delta) cs)) →
         All (ItemFits strings bytes A) (map (entryOf Delta) (c ∷ cs))
     go true f h ih = (f, ih (at + 3 + length (c .body)) h)
-    go false f h ih = absurd (let z : _≡_ {A = ℕ} 0 1 = cc in omega arith)
+    go false f h ih = never cc
 
 pub fit-applies : (s d : Bytes) → fitOf s d ≡ fit.All → Applies bytes bytes (items s) (changes d)
 unfolding entries
@@ -161,7 +162,7 @@ module _ (form : Form) (d : change.Delta Bytes Bytes) (n : ℕ) where
   no-room = go (leb (length (writes form d)) n) refl
     where
       go : (t : Bool) → leb (length (writes form d)) n ≡ t → NoRoom ≡ cond t (Written (plusAll form zero d)) NoRoom → n < length (writes form d)
-      go true e h = absurd (let z : _≡_ {A = ℕ} 0 1 = cc in omega arith)
+      go true e h = never cc
       go false e h = leb-false (length (writes form d)) n e
 
   written : (c : Counts) → Written c ≡ outputOf form d n → (length (writes form d) ≤ n) × (c ≡ plusAll form zero d)
@@ -170,7 +171,7 @@ module _ (form : Form) (d : change.Delta Bytes Bytes) (n : ℕ) where
       go : (t : Bool) → leb (length (writes form d)) n ≡ t → Written c ≡ cond t (Written (plusAll form zero d)) NoRoom →
           (length (writes form d) ≤ n) × (c ≡ plusAll form zero d)
       go true e h = (leb-true (length (writes form d)) n e, cc)
-      go false e h = absurd (let z : _≡_ {A = ℕ} 0 1 = cc in omega arith)
+      go false e h = never cc
 
 -- the same of a delta's bytes
 module _ (d : change.Delta Bytes Bytes) (b : Bytes) (e : encode Delta d ≡ b) (n : ℕ) where

@@ -7,6 +7,7 @@ use lib.Dec.{leb, eqb}
 use native.Mathlib.Omega.{arith}
 use borrow.Author.Tests.{le-leb, eq-eqb, ne-eqb, eqb-true}
 use lib.ListN.{length}
+use Rattle.order.proofs.Never.{never}
 use Rattle.order.proofs.Comparison.{strings}
 use Rattle.change.proofs.Whole.{compose}
 use Rattle.serial.specs.declared.Serial.{Serial}
@@ -49,7 +50,7 @@ admitted f a g b h k x y = rw (le-leb (length a) (limit f) h, le-leb (length b) 
 out-whole : (d o : Bytes) → length d ≤ length o → outAfter Yes d o ≡ writtenOver d o
 out-whole d o h = rw (le-leb (length d) (length o) h)
 
-no-bytes : (s : Bytes) → length s ≡ 0 → s ≡ []
+pub no-bytes : (s : Bytes) → length s ≡ 0 → s ≡ []
 no-bytes [] e = refl
 no-bytes (x ∷ s) e = absurd (omega arith)
 
@@ -60,8 +61,8 @@ empty-of n room s k = go (eqb n 0) refl (leb n room)
   where
     go : (t : Bool) → eqb n 0 ≡ t → (w : Bool) → cond t constructed.NoChange (cond w (constructed.Delta s k) (constructed.Refused NoRoom)) ≡ constructed.NoChange → n ≡ 0
     go true e w h = eqb-true n 0 e
-    go false e true h = absurd (let z : _≡_ {A = ℕ} 0 1 = cc in omega arith)
-    go false e false h = absurd (let z : _≡_ {A = ℕ} 0 1 = cc in omega arith)
+    go false e true h = never cc
+    go false e false h = never cc
 
 map-of : (s : Bytes) → Acceptable s → IsMap Snapshot (items s)
 map-of s i = good-map s (i .good)
@@ -156,8 +157,6 @@ merged-fine D F d f = faithful Delta .good-bytes _ (merge-map (changes D) (chang
 -- ---- refusal 4 comes for want of room alone
 
 -- two answers or numbers that differ: from them anything follows
-never : {X : Type 0} → _≡_ {A = ℕ} 0 1 → X
-never z = absurd (omega arith)
 
 -- no refusal of an input is 4
 input-four : (f : Form) (a : Bytes) (g : Form) (b : Bytes) (r : Refusal) → admitOf f a g b ≡ No r → ¬ (numberOf r ≡ 4)
@@ -173,7 +172,7 @@ input-four f a g b r = go (leb (length a) (limit f)) (leb (length b) (limit g)) 
     go true true (Bad at) w e = other (refusal.Bad 1 at) e (λ (n : 1 ≡ 4). omega arith)
     go true true (Senseless at) w e = other (refusal.Senseless 1 at) e (λ (n : 12 ≡ 4). omega arith)
     go true true (NotAbove at) w e = other (refusal.NotAbove 1 at) e (λ (n : 2 ≡ 4). omega arith)
-    go true true Fine Fine e = never (cc)
+    go true true Fine Fine e = never cc
     go true true Fine (Bad at) e = other (refusal.Bad 2 at) e (λ (n : 1 ≡ 4). omega arith)
     go true true Fine (Senseless at) e = other (refusal.Senseless 2 at) e (λ (n : 12 ≡ 4). omega arith)
     go true true Fine (NotAbove at) e = other (refusal.NotAbove 2 at) e (λ (n : 2 ≡ 4). omega arith)
@@ -186,9 +185,9 @@ enough-room A B a b serial room r h = go (admitOf Snapshot A Snapshot B) refl
   where
     written : (t u : Bool) → u ≡ true →
         cond t constructed.NoChange (cond u (constructed.Delta (nextOf serial) (countsOf (differenceOf A B))) (constructed.Refused NoRoom)) ≡ constructed.Refused r → ⊥
-    written true u f e = never (cc)
-    written false true f e = never (cc)
-    written false false f e = never (cc)
+    written true u f e = never cc
+    written false true f e = never cc
+    written false false f e = never cc
 
     go : (x : Admitted) → admitOf Snapshot A Snapshot B ≡ x → constructAt x (differenceOf A B) serial room ≡ constructed.Refused r → ¬ (numberOf r ≡ 4)
     go (No q) e f n = let s : q ≡ r = cc in input-four Snapshot A Snapshot B q e (ap numberOf s ∙ n)
@@ -209,7 +208,7 @@ applies-but-room A B a b room r e =
     go (leb (length (appliedOf A (differenceOf A B))) room) (rw (fitting A B a b) at e)
   where
     go : (t : Bool) → cond t (applied.Snapshot (length (appliedOf A (differenceOf A B)))) (applied.Refused NoRoom) ≡ applied.Refused r → numberOf r ≡ 4
-    go true e = never (cc)
+    go true e = never cc
     go false e = let q : NoRoom ≡ r = cc in sym (ap numberOf q)
 
 -- ---- all of it

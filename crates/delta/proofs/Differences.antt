@@ -2,6 +2,7 @@
 use Prim.Native.Nat.{ℕ, _+_}
 use mathlib.Core.Path.{_≡_, refl, sym, ap, _∙_}
 use mathlib.Core.List.{List, [], _∷_, map}
+use native.Mathlib.Omega.{arith}
 use lib.ListN.{length}
 use Rattle.order.specs.Comparison.{bytes}
 use Rattle.order.specs.Map as order
@@ -28,6 +29,11 @@ use Rattle.payload.proofs.Closed.{diff-map}
 
 pub good-map : (s : Bytes) → GoodSnapshot s → IsMap Snapshot (items s)
 good-map s g = faithful Snapshot .map-of s (g .fine)
+
+-- the empty snapshot is good
+pub empty-good : GoodSnapshot []
+unfolding encode run.cellBytes
+empty-good = record { octets = λ i. omega arith; fine = faithful Snapshot .good-bytes [] (record { sorted = tt; valid = tt }) }
 
 -- fields that all fit have no first one that does not
 fit-all : (A : change.Snapshot Bytes Bytes) (at : ℕ) (cs : List Cell) → order.All (ItemFits strings bytes A) (map (entryOf Delta) cs) →

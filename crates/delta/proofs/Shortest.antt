@@ -7,6 +7,7 @@ use native.Mathlib.Omega.{arith}
 use lib.ListN.{length, drop, length-append}
 use lib.Seq.{take-append-seam}
 use Rattle.order.specs.Comparison.{bytes}
+use Rattle.order.proofs.Never.{never}
 use Rattle.order.proofs.Comparison.{strings}
 use Rattle.change.specs.Difference.{diff}
 use Rattle.change.specs.Part.{Part}
@@ -33,19 +34,17 @@ use Rattle.fit.specs.Fit.{fitOf}
 use Rattle.delta.specs.declared.admit.Admitted.{Admitted}
 use Rattle.delta.specs.declared.admit.Admitted.the-variants.{Yes, No}
 use Rattle.delta.specs.declared.apply.Applied.the-variants as applied
-use Rattle.delta.specs.Admission.{andThen, admitOf}
+use Rattle.delta.specs.Admission.{admitOf}
 use Rattle.delta.specs.Answer.{differenceOf, mergedOf, appliedOf, fitAdmitted, applyAdmitted, applyAnswer, applyOf}
 use Rattle.delta.specs.Demand.{GoodSnapshot, Acceptable}
 use Rattle.delta.specs.Shortest.{LeadsTo, NoLonger, mergeInto, Shortest}
-use Rattle.delta.proofs.Answering.{admitted-inputs}
+use Rattle.delta.proofs.Answering.{admitted-inputs, both-yes}
 use Rattle.delta.proofs.Differences.{good-map, difference-fine, difference-says, difference-fits, difference-yields}
 use Rattle.delta.proofs.Demand.{difference-short, merges, merge-writes}
 use Rattle.delta.proofs.Leading.{leads-map}
 use Rattle.delta.proofs.Balance.{balanced}
 
 -- two answers that differ: from them anything follows
-never : {X : Type 0} → _≡_ {A = ℕ} 0 1 → X
-never z = absurd (omega arith)
 
 -- the fields of good bytes are those of what they say
 pub cells-of : (form : Form) (s : Bytes) → AllBytes s → verdict form s ≡ Fine → cells s ≡ map (cellFor form) (entries form s)
@@ -111,20 +110,16 @@ enters out serial h A B C a b c =
     ) (ap (λ (d : Bytes). some d) (take-append-seam (differenceOf A C) (drop (length (differenceOf A C)) out)))
 
 -- what `apply` accepts is good and fits
-both-yes : (x y : Admitted) → andThen x y ≡ Yes → (x ≡ Yes) × (y ≡ Yes)
-both-yes Yes y e = (refl, e)
-both-yes (No r) y e = never (cc)
-
 fit-yes : (f : Fit) → fitAdmitted f ≡ Yes → f ≡ All
 fit-yes All e = refl
-fit-yes (Misfit at) e = never (cc)
+fit-yes (Misfit at) e = never cc
 
 accepts : (A D : Bytes) (room n : ℕ) → applyOf A D room ≡ applied.Snapshot n → LeadsTo A (appliedOf A D) D
 unfolding applyOf
 accepts A D room n h = go (applyAdmitted A D) refl h
   where
     go : (x : Admitted) → applyAdmitted A D ≡ x → applyAnswer x (appliedOf A D) room ≡ applied.Snapshot n → LeadsTo A (appliedOf A D) D
-    go (No r) e h = never (cc)
+    go (No r) e h = never cc
     go Yes e h =
         let y = both-yes (admitOf Snapshot A Delta D) (fitAdmitted (fitOf A D)) e in
         record { fine = admitted-inputs Snapshot A Delta D (y .0) .fine-b; fits = fit-yes (fitOf A D) (y .1); yields = refl }

@@ -6,9 +6,7 @@ use mathlib.Core.List.{List, [], _∷_, _++_}
 use mathlib.Core.Bool.{true}
 use native.Mathlib.Omega.{arith}
 use borrow.Author.Tests.{le-leb}
-use mir.Val.{Fits}
-use mir.Syntax.{w8}
-use lib.ListN.{length, getD, length-append}
+use lib.ListN.{length, length-append}
 use lib.Seq.{take-append-seam, drop-append-seam, getD-append-add}
 use Rattle.order.specs.declared.Ordering.the-variants.{Less}
 use Rattle.order.specs.Comparison.{bytes}
@@ -22,7 +20,7 @@ use Rattle.field.specs.Verdict.{verdict}
 use Rattle.field.specs.Cells.{Cell, cells, field, cellBytes}
 use Rattle.field.proofs.Fronts.{opens}
 use Rattle.field.specs.Run.{Run, done, more}
-use Rattle.field.proofs.Run.{cells-end, cells-more, fine-run, run-verdict}
+use Rattle.field.proofs.Run.{cells-end, cells-more, run-verdict}
 
 -- a field is read as it was written
 pub front-field : (tag : ℕ) (b s : List ℕ) → front (field tag b ++ s) ≡ whole tag b s
@@ -60,14 +58,6 @@ ascent-run form (next {c = c} {cs = cs} g z o a) =
 pub ascent-fine : (form : Form) (cs : List Cell) → Ascent form (0 ∷ []) cs → verdict form (cellBytes cs) ≡ Fine
 ascent-fine form cs a = run-verdict form (cellBytes cs) (ascent-run form a)
 
--- and a good run has good cells
-pub run-ascent : (form : Form) {k s : List ℕ} → Run form k s → Ascent form k (cells s)
-run-ascent form done = rw cells-end none
-run-ascent form (more {s = s} tag b rest e g z o r) = rw (cells-more s tag b rest e) (next g z o (run-ascent form r))
-
-pub fine-ascent : (form : Form) (s : List ℕ) → verdict form s ≡ Fine → Ascent form (0 ∷ []) (cells s)
-fine-ascent form s e = run-ascent form (fine-run form s e)
-
 -- ---- bytes
 
 split-high : (h l n : ℕ) → l < 256 → h * 256 + l ≡ n → n / 256 ≡ h
@@ -94,7 +84,3 @@ encode-cells form done bs = rw cells-end
 encode-cells form (more {s = s} tag b rest e g z o r) bs =
     let f = field-front s tag b rest bs e in
     rw (cells-more s tag b rest e) (ap (λ (l : List ℕ). field tag b ++ l) (encode-cells form r (rest-bytes s tag b rest bs f)) ∙ sym f)
-
--- a good run of bytes is written as it was read
-pub good-encode : (form : Form) (s : List ℕ) → verdict form s ≡ Fine → ((i : ℕ) → Fits w8 (getD s i 0)) → cellBytes (cells s) ≡ s
-good-encode form s e bs = encode-cells form (fine-run form s e) (λ i. bs i .fits)

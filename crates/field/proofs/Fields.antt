@@ -9,6 +9,7 @@ use borrow.Author.Tests.{le-leb, lt-leb}
 use lib.Dec.{leb}
 use lib.ListN.{length, getD, take, drop, length-drop, drop-of-length-le}
 use lib.Seq.{drop-cons, drop-drop, length-take-le, take-append-seam, drop-append-seam}
+use Rattle.order.proofs.Never.{never}
 use Rattle.number.specs.Number.{twoAt, wordAt}
 use Rattle.number.specs.Bytes.{part}
 use Rattle.field.specs.declared.head.Field.{Field}
@@ -106,8 +107,8 @@ module _ (s : List ℕ) (at : ℕ) (r : Field) (f : r ≡ fieldAt s at) where
     whole-at = go (front (drop at s)) refl (sym f ∙ e)
       where
         go : (x : Front) → front (drop at s) ≡ x → place at x ≡ Whole tag from to → WholeAt s at tag from to
-        go end q d = absurd (let z : _≡_ {A = ℕ} 0 1 = cc in omega arith)
-        go cut q d = absurd (let z : _≡_ {A = ℕ} 0 1 = cc in omega arith)
+        go end q d = never cc
+        go cut q d = never cc
         go (whole t b rest) q d =
             let x : t ≡ tag = cc in
             let y : at + 3 ≡ from = cc in

@@ -8,18 +8,19 @@ use borrow.Author.Tests.{leb-true}
 use lib.Dec.{leb}
 use lib.ListN.{length, take, drop, length-append, take-append-drop}
 use lib.Seq.{length-take-le}
+use Rattle.order.proofs.Never.{never}
 use Rattle.number.specs.Number.{two}
 use Rattle.field.specs.Head.{Front, end, cut, whole, front}
 
 -- two fronts that differ: from them anything follows (where the goal is an equation `cc` finds it alone)
 pub end≢whole : {X : Type 0} {f : Front} {tag : ℕ} {b rest : List ℕ} → f ≡ end → f ≡ whole tag b rest → X
-end≢whole p q = absurd (let z : _≡_ {A = ℕ} 0 1 = cc in omega arith)
+end≢whole p q = never cc
 
 pub cut≢whole : {X : Type 0} {f : Front} {tag : ℕ} {b rest : List ℕ} → f ≡ cut → f ≡ whole tag b rest → X
-cut≢whole p q = absurd (let z : _≡_ {A = ℕ} 0 1 = cc in omega arith)
+cut≢whole p q = never cc
 
 pub end≢cut : {X : Type 0} {f : Front} → f ≡ end → f ≡ cut → X
-end≢cut p q = absurd (let z : _≡_ {A = ℕ} 0 1 = cc in omega arith)
+end≢cut p q = never cc
 
 -- the bytes that a whole field in front of s is made of
 pub record Opens (s : List ℕ) (tag : ℕ) (b rest : List ℕ) : Type 0 where

@@ -2,7 +2,7 @@
 use Prim.Native.Nat.{ℕ, _+_, _-_, _<_, _≤_, min}
 use mathlib.Core.Path.{_≡_, refl, ap, sym, _∙_}
 use mathlib.Core.List.{List, [], _∷_}
-use mathlib.Core.Bool.{Bool, true, false, cond, false≢true}
+use mathlib.Core.Bool.{Bool, true, false, cond}
 use native.Mathlib.Decide.{decLe}
 use native.Mathlib.Omega.{arith}
 use borrow.Author.Tests.{eq-eqb, ne-eqb}
@@ -14,10 +14,6 @@ use Rattle.order.specs.declared.Ordering.the-variants.{Less, Greater}
 use Rattle.order.specs.Comparison.{bytes}
 use Rattle.order.proofs.Comparison.{number-less, number-equal, number-greater}
 use Rattle.number.specs.Bytes.{part}
-use Rattle.body.specs.declared.tag.Form.{Form}
-use Rattle.body.specs.declared.tag.Tag.{Tag}
-use Rattle.body.specs.declared.tag.Tag.the-variants.{Unknown, Origin, RouterKey, Aspa}
-use Rattle.body.specs.Tag.{tagOf, kindNumber, kindOf, goodTagged, goodBody}
 use Rattle.field.specs.declared.key.Key.{Key}
 use Rattle.field.specs.Key.{keyOf}
 use Rattle.field.specs.Places.{KeyFits, keyIn, keyPlace}
@@ -104,16 +100,3 @@ module _ (a b : List ℕ) (x y : Key) where
       rw (number-equal (x .kind) (y .kind) (omega arith), e, within a (x .from) (x .to) f t p q, within b (y .from) (y .to) g u m n)
 
 pub ruleset keys = (place-long, place-short, place-none, place-other, kinds-less, kinds-greater, kinds-same)
-
--- ---- the first key
-
--- the key that stands before the first field is below each good field's
-pub first-above : (form : Form) (tag : ℕ) (b : List ℕ) → goodBody form tag b ≡ true → bytes (0 ∷ []) (keyOf (kindOf form tag) b) ≡ Less
-unfolding goodBody kindOf keyOf
-first-above form tag b g = go (tagOf form tag) g
-  where
-    go : (t : Tag) → goodTagged t b ≡ true → bytes (0 ∷ []) (keyOf (kindNumber t) b) ≡ Less
-    go Unknown e = absurd (false≢true e)
-    go (Origin action) e = refl
-    go (RouterKey action) e = refl
-    go (Aspa action) e = refl

@@ -8,6 +8,7 @@ use lib.ListN.{length}
 use Rattle.order.specs.declared.Ordering.{Ordering}
 use Rattle.order.specs.declared.Ordering.the-variants.{Less, Equal, Greater}
 use Rattle.order.specs.Comparison.{bytes, isLess}
+use Rattle.order.proofs.Never.{never}
 use Rattle.body.specs.declared.tag.Form.{Form}
 use Rattle.body.specs.Tag.{goodBody, sensible, kindOf}
 use Rattle.field.specs.declared.verdict.Verdict.{Verdict}
@@ -71,13 +72,13 @@ cells-more s tag b rest e =
 
 -- two verdicts that differ
 bad≢fine : {X : Type 0} {at : ℕ} → Bad at ≡ Fine → X
-bad≢fine e = absurd (let z : _≡_ {A = ℕ} 0 1 = cc in omega arith)
+bad≢fine e = never cc
 
 senseless≢fine : {X : Type 0} {at : ℕ} → Senseless at ≡ Fine → X
-senseless≢fine e = absurd (let z : _≡_ {A = ℕ} 0 1 = cc in omega arith)
+senseless≢fine e = never cc
 
 low≢fine : {X : Type 0} {at : ℕ} → NotAbove at ≡ Fine → X
-low≢fine e = absurd (let z : _≡_ {A = ℕ} 0 1 = cc in omega arith)
+low≢fine e = never cc
 
 module _ (form : Form) where
   -- a judgement that finds nothing found a good body that makes sense, above the key before it
@@ -132,7 +133,7 @@ module _ (form : Form) where
   -- a good run has no field that is cut short
   pub run-cut : {k s : List ℕ} → Run form k s → front s ≡ cut → ⊥
   unfolding front
-  run-cut done e = let z : _≡_ {A = ℕ} 0 1 = cc in omega arith
+  run-cut done e = never cc
   run-cut (more tag b rest f g c o r) e = cut≢whole e f
 
   -- the field in front is good, makes sense, stands above the key before it, and a good run follows

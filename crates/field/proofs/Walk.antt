@@ -16,8 +16,7 @@ use Rattle.field.specs.Key.{keyOf}
 use Rattle.field.specs.Verdict.{verdict}
 use Rattle.field.specs.Cells.{cells}
 use Rattle.field.specs.Head.{fieldAt}
-use Rattle.field.proofs.Fields.{end-at, cut-at, whole-at, body-ordered, body-within, field-long, field-less}
-use Rattle.field.proofs.Keys.{key-fits}
+use Rattle.field.proofs.Fields.{end-at, cut-at, whole-at}
 use Rattle.field.specs.Run.{Run}
 use Rattle.field.specs.Places.{GoodAt}
 use Rattle.field.proofs.Run.{fine-run, cells-at-end, cells-more, run-cut, run-whole}
@@ -44,11 +43,5 @@ module _ (s : List ℕ) (at : ℕ) (r : Field) (f : r ≡ fieldAt s at) where
       pub good-body : goodBody form tag (part s from to) ≡ true
       good-body = here .0
 
-      pub good-above : bytes (g .before) (keyOf (kindOf form tag) (part s from to)) ≡ Less
-      good-above = here .2
-
       pub good-next : GoodAt form s to
       good-next = record { before = keyOf (kindOf form tag) (part s from to); run = here .3 }
-
--- what a loop over a good run asks
-pub ruleset walking = (good-start, good-end, good-cells, good-cut, good-body, good-above, good-next, body-ordered, body-within, field-long, field-less, key-fits)

@@ -11,6 +11,7 @@ use Rattle.order.specs.declared.Ordering.{Ordering}
 use Rattle.order.specs.declared.Ordering.the-variants.{Less, Equal, Greater}
 use Rattle.order.specs.Comparison.{bytes, flip}
 use Rattle.order.specs.Map.{Item, All, lookup, own, Below, Sorted}
+use Rattle.order.proofs.Never.{never}
 use Rattle.order.proofs.Comparison.{strings}
 use Rattle.order.proofs.Map.{absent}
 use Rattle.change.specs.Change.{Change, announce}
@@ -183,7 +184,7 @@ pub ruleset resting = (rest-start, rest-end, rest-misfit, rest-again, rest-less)
 -- a list whose images are none is none
 no-images : {A B : Type 0} (f : A → B) (l : List A) → map f l ≡ [] → l ≡ []
 no-images f [] e = refl
-no-images f (x ∷ l) e = absurd (let z : _≡_ {A = ℕ} 0 1 = cc in omega arith)
+no-images f (x ∷ l) e = never cc
 
 no-cells : (d : Bytes) → changes d ≡ [] → cells d ≡ []
 unfolding entries
@@ -203,8 +204,8 @@ below-items k s h = below-new k (items s) (subst (Below bytes k) (diff-new bytes
 -- the held value lies where its announcement says
 value-is : (s : Bytes) (act : Act) (v : Bytes) → changeIn s s act ≡ announce v → partIn s (valuePlace act) ≡ v
 value-is s (Announce n) v e = cc
-value-is s (Withdraw p) v e = absurd (let z : _≡_ {A = ℕ} 0 1 = cc in omega arith)
-value-is s (Update p n) v e = absurd (let z : _≡_ {A = ℕ} 0 1 = cc in omega arith)
+value-is s (Withdraw p) v e = never cc
+value-is s (Update p n) v e = never cc
 
 pub value-fits : (s : Bytes) (act : Act) (v : Part) → ActFits s s act → v ≡ valuePlace act → PartFits s v
 value-fits s (Announce n) v f e = rw e (f .parts)

@@ -1,8 +1,8 @@
 -- Laws of the check of a payload message.
-use Prim.Native.Nat.{ℕ, suc, _+_, _-_, _*_, _<_, _≤_}
+use Prim.Native.Nat.{ℕ, _+_, _-_, _<_, _≤_}
 use mathlib.Core.Path.{_≡_, refl, sym, ap, _∙_}
-use mathlib.Core.List.{List, [], _∷_, _++_}
-use mathlib.Core.Bool.{Bool, true, false, not, cond, _&&_}
+use mathlib.Core.List.{[], _++_}
+use mathlib.Core.Bool.{Bool, true, false, not, _&&_, and-false}
 use native.Mathlib.Omega.{arith}
 use native.Mathlib.Decide.{decLe}
 use borrow.Author.Tests.{eq-eqb, ne-eqb, le-leb, lt-leb, not-true, not-false}
@@ -12,7 +12,6 @@ use lib.Seq.{sets, sets-eq, length-take-le}
 use Rattle.number.specs.Number.{twoBytes, fourBytes, wordBytes}
 use Rattle.number.specs.Bytes.{part}
 use Rattle.number.proofs.Eights.{Octets}
-use Rattle.body.specs.declared.tag.Form.the-variants.{Snapshot}
 use Rattle.body.specs.Origin.{goodOrigin}
 use Rattle.body.specs.RouterKey.{goodRouterKey}
 use Rattle.body.specs.Tag.{tagOf, goodBody}
@@ -23,11 +22,11 @@ use Rattle.payload.specs.Content.{Bytes}
 use Rattle.message.specs.declared.version.Version.{Version}
 use Rattle.message.specs.Version.{speaks}
 use Rattle.message.specs.Record.{goodRecord}
-use Rattle.heard.specs.Place.{typeAt, sizeAt, flagsAt, keyAt, v4, v6, key, Payload}
+use Rattle.heard.specs.Place.{typeAt, sizeAt, keyAt}
 use Rattle.heard.specs.Field.{recordField}
 use Rattle.heard.specs.Put.{Prefix, wordsBytes}
 use Rattle.heard.specs.Step.{Framed, sizedAt, payloadAt}
-use Rattle.heard.proofs.Keys.{byteAt, fourKey, four-key, sixKey, six-key, router-key}
+use Rattle.heard.proofs.Keys.{four-key, six-key, router-key}
 use Rattle.heard.proofs.Putting.{words-back, prefix-long, prefix-octets, prefix-last}
 
 -- ---- words_good
@@ -74,10 +73,6 @@ module _ (s : Bytes) (at : ℕ) (o : Octets s) (w : Words) (e : w ≡ wordsAt (r
 pub ruleset goods = (words-good, four-last-small, four-good-is, six-last-small, six-good-is)
 
 -- ---- is_payload
-
-and-false : (b : Bool) → b && false ≡ false
-and-false true = refl
-and-false false = refl
 
 module _ (v : Version) (s : Bytes) (at size : ℕ) (f : Framed s at size) where
   pub framed-1 : at + 1 < length s

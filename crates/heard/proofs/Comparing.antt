@@ -1,15 +1,13 @@
 -- Laws of the comparisons of two messages.
-use Prim.Native.Nat.{ℕ, zero, suc, _+_, _-_, _*_, _/_, _%_, _<_, _≤_}
+use Prim.Native.Nat.{ℕ, zero, suc, _+_, _*_, _/_, _%_, _<_, _≤_}
 use mathlib.Core.Path.{_≡_, refl, sym, ap, _∙_}
-use mathlib.Core.List.{List, [], _∷_, _++_}
+use mathlib.Core.List.{[], _∷_, _++_}
 use mathlib.Core.Bool.{Bool, true, false, cond}
 use native.Mathlib.Omega.{arith}
 use native.Mathlib.Decide.{ℕ-discrete, decLe}
 use borrow.Author.Tests.{eq-eqb, ne-eqb}
-use mir.Syntax.{w8, w64}
-use mir.Val.{Fits}
 use lib.Dec.{eqb, ltb}
-use lib.ListN.{length, getD, take, drop, replicate, drop-of-length-le}
+use lib.ListN.{length, getD, drop, replicate, drop-of-length-le}
 use lib.Seq.{getD-drop, drop-drop}
 use Rattle.order.specs.declared.Ordering.{Ordering}
 use Rattle.order.specs.declared.Ordering.the-variants.{Less, Equal, Greater}
@@ -19,13 +17,14 @@ use Rattle.change.specs.Application.{isEqual}
 use Rattle.number.specs.Number.{four, fourAt, wordAt}
 use Rattle.number.specs.Bytes.{part}
 use Rattle.number.proofs.Eights.{Octets, digits, word-digits, part-bytes, digits-decide}
+use Rattle.number.proofs.Numbers.{four-lt, low-half, high-half}
 use Rattle.payload.specs.Content.{Bytes}
 use Rattle.item.specs.Front.{packs, frontKey}
 use Rattle.item.proofs.Fronts.{front-less, front-greater}
 use Rattle.heard.specs.Place.{typeAt, sizeAt, keyAt, Sized, v4, v6, key, Payload, before, precedes}
 use Rattle.heard.specs.Compare.{Of, Fronted, FrontOf, Alike}
 use Rattle.heard.proofs.Keys.{byteAt, word-from, four-from, fourKey, four-key, sixKey, six-key, router-key}
-use Rattle.heard.proofs.Places.{four-small, low-half, high-half, least, long, third, size-least}
+use Rattle.heard.proofs.Places.{least, long, third, size-least}
 use Rattle.heard.proofs.Fronts.{front-four, front-six, front-key}
 
 -- ---- is_below
@@ -208,9 +207,6 @@ module _ (k l : Bytes) (o : Octets k) (p : Octets l) where
 -- ---- two messages whose fronts are the same
 
 module _ (s : Bytes) (o : Octets s) (x y : ℕ) where
-  abbrev Decides : Ordering → Type 0
-  Decides r = r ≡ bytes (keyAt s x) (keyAt s y)
-
   -- prefixes of one family: the words in the middle, then the last ones
   prefixes : length (keyAt s x) ≡ 24 → length (keyAt s y) ≡ 24 → frontKey (keyAt s x) ≡ frontKey (keyAt s y)
       → bytes (keyAt s x) (keyAt s y) ≡ orElse (number (wordAt (keyAt s x) 8) (wordAt (keyAt s y) 8)) (number (wordAt (keyAt s x) 16) (wordAt (keyAt s y) 16))
@@ -298,7 +294,7 @@ pub ruleset routers = (keys-one, keys-other, keys-end, keys-end-2, keys-from, ke
 
 word-small : (s : Bytes) → Octets s → (i : ℕ) → wordAt s i < 18_446_744_073_709_551_616
 unfolding wordAt
-word-small s o i = plain (fourAt s i) (fourAt s (i + 4)) (four-small s o i) (four-small s o (i + 4))
+word-small s o i = plain (fourAt s i) (fourAt s (i + 4)) (four-lt s o i) (four-lt s o (i + 4))
   where
     plain : (x y : ℕ) → x < 4_294_967_296 → y < 4_294_967_296 → x * 4_294_967_296 + y < 18_446_744_073_709_551_616
     plain x y h k = omega arith

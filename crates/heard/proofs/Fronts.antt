@@ -1,28 +1,25 @@
 -- Laws of front_at.
-use Prim.Native.Nat.{ℕ, zero, suc, _+_, _-_, _*_, _/_, _%_, _<_, _≤_}
-use mathlib.Core.Path.{_≡_, refl, sym, ap, _∙_}
-use mathlib.Core.List.{List, [], _∷_, _++_}
-use mathlib.Core.Bool.{Bool, true, false, cond}
+use Prim.Native.Nat.{ℕ, _+_, _-_, _*_, _/_, _<_, _≤_}
+use mathlib.Core.Path.{_≡_, sym, _∙_}
+use mathlib.Core.Bool.{true, cond}
 use native.Mathlib.Omega.{arith}
 use borrow.Author.Tests.{ne-eqb}
-use mir.Syntax.{w8, w64}
-use mir.Val.{Fits}
 use lib.Dec.{eqb}
-use lib.ListN.{length, getD, take, drop, length-take, length-drop}
+use lib.ListN.{length, take, drop, length-drop}
 use lib.Seq.{length-take-le}
-use Rattle.number.specs.Number.{four, fourAt, wordAt}
+use Rattle.number.specs.Number.{four, wordAt}
 use Rattle.number.specs.Bytes.{part}
 use Rattle.number.proofs.Eights.{Octets}
+use Rattle.number.proofs.Numbers.{high-half}
 use Rattle.body.specs.declared.tag.Form.the-variants.{Snapshot}
 use Rattle.body.specs.Tag.{kindOf, tagOf, goodBody}
 use Rattle.field.specs.Key.{keyOf}
 use Rattle.payload.specs.Content.{Bytes}
 use Rattle.item.specs.Front.{packs, frontKey, frontIn}
 use Rattle.item.proofs.Fronts.{front-here}
-use Rattle.message.specs.Record.{goodRecord}
 use Rattle.heard.specs.Place.{typeAt, sizeAt, keyAt, Sized, v4, v6, key, Payload}
-use Rattle.heard.proofs.Keys.{byteAt, word-from, four-from, fourKey, four-key, sixKey, six-key, router-key}
-use Rattle.heard.proofs.Places.{four-small, low-half, high-half, least, long, third, size-least}
+use Rattle.heard.proofs.Keys.{byteAt, word-from, four-from, four-key, six-key, router-key}
+use Rattle.heard.proofs.Places.{least, long}
 
 module _ (k w : ℕ) where
   pub address-four : k ≡ 4 → w / 4_294_967_296 * 65_536 ≡ cond (eqb k 4) (w / 4_294_967_296 * 65_536) (w / 65_536)

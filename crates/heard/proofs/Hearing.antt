@@ -1,20 +1,20 @@
 -- Laws of the pass over an answer.
 use Prim.Native.Nat.{ℕ, zero, suc, _+_, _-_, _*_, _/_, _%_, _^_, _<_, _≤_}
-use mathlib.Core.Path.{_≡_, refl, sym, ap, ap₂, _∙_}
-use mathlib.Core.List.{List, [], _∷_, _++_, map, append-assoc}
-use mathlib.Core.Bool.{Bool, true, false, not, cond, _&&_, false≢true}
+use mathlib.Core.Path.{_≡_, refl, sym, ap, _∙_}
+use mathlib.Core.List.{List, [], _∷_, _++_, map}
+use mathlib.Core.Bool.{Bool, true, false, not, cond, _&&_}
 use mathlib.Core.Option.{Option, none, some}
 use native.Mathlib.Omega.{arith}
-use borrow.Author.Tests.{eq-eqb, ne-eqb, eqb-true, le-leb, lt-leb, leb-true, not-true, not-false}
+use borrow.Author.Tests.{eq-eqb, ne-eqb, eqb-true, le-leb, lt-leb, not-true, not-false}
 use lib.Dec.{leb, eqb}
-use lib.ListN.{length, getD, take, drop, replicate, length-drop, drop-of-length-le}
+use lib.ListN.{length, getD, drop, replicate, length-drop, drop-of-length-le}
+use Rattle.order.proofs.Never.{never}
 use Rattle.number.specs.Bytes.{part}
-use lib.Seq.{getD-drop, drop-drop, drop-cons}
-use Rattle.serial.specs.declared.Session.{Session}
-use Rattle.serial.specs.declared.Serial.{Serial}
+use lib.Seq.{drop-drop, drop-cons}
 use Rattle.serial.specs.declared.timing.Timing.{Timing}
-use Rattle.number.specs.Number.{two, twoAt, four, fourAt, wordAt}
+use Rattle.number.specs.Number.{twoAt, fourAt, wordAt}
 use Rattle.number.proofs.Eights.{Octets}
+use Rattle.number.proofs.Numbers.{low-half, high-half}
 use Rattle.body.proofs.Sizes.{both}
 use Rattle.payload.specs.Content.{Bytes}
 use Rattle.message.specs.declared.version.Version.{Version}
@@ -24,7 +24,7 @@ use Rattle.message.specs.Message.{Message, ipv4Prefix, ipv6Prefix, endOfData, r
 use Rattle.change.specs.Change.{announce, withdraw}
 use Rattle.message.specs.Record as said
 use Rattle.message.specs.Record.{partOf, payloadOf, goodRecord}
-use Rattle.message.specs.Read.{Front, front, frontOf, messageIn, sized}
+use Rattle.message.specs.Read.{front, frontOf, messageIn, sized}
 use Rattle.message.specs.Hear as message
 use Rattle.heard.specs.declared.hear.Stop.{Stop}
 use Rattle.heard.specs.declared.hear.Stop.the-variants.{Faulty, Ended}
@@ -32,11 +32,11 @@ use Rattle.heard.specs.declared.hear.Step.{Step}
 use Rattle.heard.specs.declared.hear.Step.the-variants.{On, Halt}
 use Rattle.heard.specs.declared.hear.Heard.{Heard}
 use Rattle.heard.specs.declared.sums.Sums.{Sums}
-use Rattle.heard.specs.Place.{typeAt, sizeAt, flagsAt, keyAt, announcesAt, toldAt, Sized, v4, v6, key, Payload, Messages, done, more}
+use Rattle.heard.specs.Place.{typeAt, sizeAt, flagsAt, keyAt, toldAt, Payload, Messages, done, more}
 use Rattle.heard.specs.Heard.{stopIs, HeardIs, countFlags, sumFields}
 pub use Rattle.heard.specs.Step.{Hearing}
 use Rattle.heard.specs.Step.{isWhole, Framed, Ending, Timed, Closing, endedAt, sizedAt, payloadAt, opens, StepIs, EndIs, stepMeans, plusAt, Small, Summed, heardOf, behind}
-use Rattle.heard.proofs.Places.{low-half, high-half, size-least}
+use Rattle.heard.proofs.Places.{size-least}
 use Rattle.heard.proofs.Summing.{summed-more, small-more}
 use Rattle.heard.proofs.Reading as reading
 use Rattle.heard.proofs.Reading.{two-drop, four-drop, first-drop, front-not, front-whole, whole-head, whole-long, type-7, heard-front, heard-good, heard-bad, heard-other}
@@ -178,7 +178,7 @@ module _ (v : Version) (session : ℕ) (s : Bytes) (at : ℕ) (b : Bool) (e : b 
   step-cut n =
       record {
         same = λ go. rw (front-not v (drop at s) (sym e ∙ not-true b n));
-        good = λ h. absurd (let z : _≡_ {A = ℕ} 0 1 = cc in omega arith);
+        good = λ h. never cc;
       }
 
   module _ (y : not b ≡ false) (inside : at ≤ length s) where
@@ -201,7 +201,7 @@ module _ (v : Version) (session : ℕ) (s : Bytes) (at : ℕ) (b : Bool) (e : b 
       step-ending t = record { framed = step-framed; whole = whole; type = t }
 
       pub step-ended : typeAt s at ≡ 7 → (r : Stop) → EndIs v session s at r → StepIs v session s at (Halt r)
-      step-ended t r h = record { same = h .same; good = λ h. absurd (let z : _≡_ {A = ℕ} 0 1 = cc in omega arith) }
+      step-ended t r h = record { same = h .same; good = λ h. never cc }
 
       module _ (p : Bool) (q : p ≡ payloadAt v s at) where
         pub step-on : p ≡ true → StepIs v session s at On
@@ -218,7 +218,7 @@ module _ (v : Version) (session : ℕ) (s : Bytes) (at : ℕ) (b : Bool) (e : b 
         step-off n t =
             record {
               same = λ go. halts go (sizedAt v s at) refl (leb (flagsAt s at) 1 && goodRecord (keyAt s at)) refl (sym q ∙ t);
-              good = λ h. absurd (let z : _≡_ {A = ℕ} 0 1 = cc in omega arith);
+              good = λ h. never cc;
             }
           where
             halts : (go : ℕ → Bytes → message.Heard) (x : Bool) → sizedAt v s at ≡ x → (y : Bool) → leb (flagsAt s at) 1 && goodRecord (keyAt s at) ≡ y → x && y ≡ false

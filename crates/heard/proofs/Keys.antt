@@ -1,18 +1,15 @@
 -- The record of a message, byte by byte.
-use Prim.Native.Nat.{ℕ, zero, suc, _+_, _-_, _*_, _/_, _%_, _<_, _≤_}
-use mathlib.Core.Path.{_≡_, refl, sym, ap, _∙_}
-use mathlib.Core.List.{List, [], _∷_, _++_}
-use mathlib.Core.Bool.{Bool, true, false}
+use Prim.Native.Nat.{ℕ, zero, suc, _+_, _-_, _*_, _<_, _≤_}
+use mathlib.Core.Path.{_≡_, refl}
+use mathlib.Core.List.{[], _∷_}
+use mathlib.Core.Bool.{false}
 use native.Mathlib.Omega.{arith}
-use borrow.Author.Tests.{eq-eqb, ne-eqb}
-use mir.Syntax.{w8}
-use mir.Val.{Fits}
+use borrow.Author.Tests.{eq-eqb}
 use lib.Dec.{eqb}
-use lib.ListN.{length, getD, take, drop, replicate}
+use lib.ListN.{length, getD, take, drop}
 use lib.Seq.{drop-cons}
 use Rattle.number.specs.Number.{two, twoAt, four, fourAt, wordAt}
 use Rattle.number.specs.Bytes.{part}
-use Rattle.number.proofs.Eights.{Octets, part-bytes}
 use Rattle.payload.specs.Content.{Bytes}
 use Rattle.heard.specs.Place.{typeAt, sizeAt, keyAt}
 

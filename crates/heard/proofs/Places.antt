@@ -1,39 +1,15 @@
 -- Laws of the readers of a message.
-use Prim.Native.Nat.{ℕ, zero, suc, _+_, _-_, _*_, _/_, _%_, _<_, _≤_}
-use mathlib.Core.Path.{_≡_, refl, sym, ap, _∙_}
-use mathlib.Core.List.{List, [], _∷_, _++_}
-use mathlib.Core.Bool.{Bool, true, false, cond}
+use Prim.Native.Nat.{ℕ, _+_, _%_, _<_, _≤_}
+use mathlib.Core.Path.{_≡_}
 use native.Mathlib.Omega.{arith}
 use borrow.Author.Tests.{eq-eqb, ne-eqb}
-use mir.Syntax.{w8}
-use mir.Val.{Fits}
 use lib.Dec.{eqb}
 use lib.ListN.{length, getD}
-use Rattle.number.specs.Number.{four, fourAt, wordAt}
+use Rattle.number.specs.Number.{wordAt}
 use Rattle.number.proofs.Eights.{Octets}
+use Rattle.number.proofs.Numbers.{low-half}
 use Rattle.payload.specs.Content.{Bytes}
-use Rattle.heard.specs.Place.{typeAt, sizeAt, flagsAt, announcesAt, Sized, v4, v6, key, Payload}
-
--- ---- a word by its halves
-
-module _ (s : Bytes) (o : Octets s) (i : ℕ) where
-  pub four-small : fourAt s i < 4_294_967_296
-  four-small = omega (arith, o i .fits, o (i + 1) .fits, o (i + 2) .fits, o (i + 3) .fits)
-
-module _ (s : Bytes) (o : Octets s) (i : ℕ) where
-  pub low-half : wordAt s i % 4_294_967_296 ≡ fourAt s (i + 4)
-  unfolding wordAt
-  low-half = let h = four-small s o (i + 4) in plain (fourAt s i) (fourAt s (i + 4)) h
-    where
-      plain : (x y : ℕ) → y < 4_294_967_296 → (x * 4_294_967_296 + y) % 4_294_967_296 ≡ y
-      plain x y h = omega arith
-
-  pub high-half : wordAt s i / 4_294_967_296 ≡ fourAt s i
-  unfolding wordAt
-  high-half = let h = four-small s o (i + 4) in plain (fourAt s i) (fourAt s (i + 4)) h
-    where
-      plain : (x y : ℕ) → y < 4_294_967_296 → (x * 4_294_967_296 + y) / 4_294_967_296 ≡ x
-      plain x y h = omega arith
+use Rattle.heard.specs.Place.{typeAt, sizeAt, announcesAt, Sized, v4, v6, key, Payload}
 
 -- ---- what lies within
 

@@ -1,30 +1,26 @@
 -- Laws of writing a record's field.
-use Prim.Native.Nat.{ℕ, zero, suc, _+_, _-_, _*_, _/_, _%_, _<_, _≤_}
-use mathlib.Core.Path.{_≡_, refl, sym, ap, ap₂, _∙_}
-use mathlib.Core.List.{List, [], _∷_, _++_}
+use Prim.Native.Nat.{ℕ, suc, _+_, _-_, _*_, _/_, _%_, _<_, _≤_}
+use mathlib.Core.Path.{_≡_, refl, sym, ap, _∙_}
+use mathlib.Core.List.{_∷_, _++_}
 use native.Mathlib.Omega.{arith}
-use mir.Syntax.{w8, w64}
-use mir.Val.{Fits}
-use lib.ListN.{length, getD, take, drop, set, length-set, length-take, length-drop, take-append-drop}
+use lib.ListN.{length, getD, take, drop, set, length-set, length-drop, take-append-drop}
 use lib.Seq.{sets, length-sets, length-take-le, getD-drop, drop-drop, drop-cons, take-all}
-use Rattle.number.specs.Number.{two, twoAt, four, fourAt, wordAt, twoBytes, fourBytes, wordBytes}
+use Rattle.number.specs.Number.{two, twoAt, four, wordAt, twoBytes, fourBytes, wordBytes}
 use Rattle.number.specs.Bytes.{part}
 use Rattle.number.proofs.Eights.{Octets}
-use Rattle.number.proofs.Numbers.{bytes-of-word}
+use Rattle.number.proofs.Numbers.{bytes-of-word, low-half, high-half}
 use Rattle.field.specs.declared.words.Words.{Words}
 use Rattle.field.specs.Words.{wordsAt}
 use Rattle.field.specs.Cells.{field}
 use Rattle.payload.specs.Content.{Bytes}
-use Rattle.item.specs.declared.place.Part.{Part}
-use Rattle.item.specs.Place.{partIn, Lies}
+use Rattle.item.specs.Place.{Lies}
 use Rattle.item.proofs.Sinking.{sets-append}
-use Rattle.item.proofs.Copying.{within-set, two-stored, top-fits}
 use Rattle.heard.specs.Place.{typeAt, sizeAt, keyAt, Payload}
 use Rattle.heard.specs.Field.{recordField}
 use Rattle.heard.specs.Compare.{Of}
 use Rattle.heard.specs.Put.{Prefix, wordsBytes, Holds}
-use Rattle.heard.proofs.Keys.{byteAt, word-from, four-from, fourKey, four-key, sixKey, six-key, router-key}
-use Rattle.heard.proofs.Places.{low-half, high-half, least, long, third, size-least, size-most}
+use Rattle.heard.proofs.Keys.{byteAt, word-from, four-from, four-key, six-key, router-key}
+use Rattle.heard.proofs.Places.{least, long, third, size-least, size-most}
 use Rattle.heard.proofs.Comparing.{lengths-at, six-long, key-octets, octets-cons}
 
 -- ---- four_words, six_words
@@ -81,9 +77,7 @@ module _ (s : Bytes) (at : ℕ) where
 
 pub ruleset wording = (four-words-is, four-in, four-in-2, six-words-is, six-in, six-in-2, six-in-3)
 
--- ---- store_pair, store_words
-
-pub ruleset pairing = (within-set, two-stored, top-fits)
+-- ---- store_words
 
 word-length : (w : ℕ) → length (wordBytes w) ≡ 8
 unfolding wordBytes fourBytes twoBytes

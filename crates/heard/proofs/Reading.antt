@@ -1,16 +1,16 @@
 -- What stands at a place, as message's reading and hearing see it.
-use Prim.Native.Nat.{ℕ, zero, suc, _+_, _-_, _*_, _<_, _≤_}
+use Prim.Native.Nat.{ℕ, zero, suc, _+_, _-_, _≤_}
 use mathlib.Core.Path.{_≡_, refl, sym, ap, _∙_}
-use mathlib.Core.List.{List, [], _∷_, _++_}
-use mathlib.Core.Bool.{Bool, true, false, not, cond, _&&_, false≢true}
+use mathlib.Core.List.{[], _++_}
+use mathlib.Core.Bool.{Bool, true, false, cond, _&&_, false≢true}
 use mathlib.Core.Option.{Option, none, some}
 use native.Mathlib.Omega.{arith}
-use borrow.Author.Tests.{eq-eqb, ne-eqb, eqb-true, eqb-false, le-leb, lt-leb, leb-true, not-true, not-false}
+use borrow.Author.Tests.{eq-eqb, ne-eqb, eqb-true, leb-true}
 use lib.Dec.{leb, eqb}
-use lib.ListN.{length, getD, take, drop, replicate, length-drop}
+use lib.ListN.{length, getD, drop, length-drop}
 use lib.Seq.{getD-drop, drop-drop, take-add, length-take-le}
-use Rattle.change.specs.Change.{Change, announce, withdraw}
-use Rattle.number.specs.Number.{two, twoAt, four, fourAt}
+use Rattle.change.specs.Change.{announce, withdraw}
+use Rattle.number.specs.Number.{twoAt, fourAt}
 use Rattle.number.specs.Bytes.{part}
 use Rattle.body.specs.RouterKey.{goodRouterKey}
 use Rattle.body.specs.Tag.{tagOf, goodBody}
@@ -18,13 +18,13 @@ use Rattle.body.proofs.Sizes.{both}
 use Rattle.payload.specs.Content.{Bytes}
 use Rattle.message.specs.declared.version.Version.{Version}
 use Rattle.message.specs.Version.{versionNumber, speaks, timesIn, endLength}
-use Rattle.message.specs.Message.{Message, serialNotify, serialQuery, cacheResponse, ipv4Prefix, ipv6Prefix, endOfData, cacheReset, routerKey, errorReport}
-use Rattle.message.specs.Record.{Part, opening, payload, ending, misplaced, partOf, goodRecord, flagged, payloadOf}
-use Rattle.message.specs.Read.{Front, unread, read, front, frontOf, messageIn, sized}
+use Rattle.message.specs.Message.{Message, ipv4Prefix, ipv6Prefix, endOfData, routerKey}
+use Rattle.message.specs.Record.{payload, misplaced, partOf, goodRecord, flagged, payloadOf}
+use Rattle.message.specs.Read.{unread, front, frontOf, messageIn, sized}
 use Rattle.message.specs.Hear as message
-use Rattle.heard.specs.Place.{typeAt, sizeAt, flagsAt, keyAt, announcesAt, toldAt, Sized, v4, v6, key, Payload}
-use Rattle.heard.specs.Step.{isWhole, sizedAt, payloadAt}
-use Rattle.heard.proofs.Keys.{byteAt, two-from, four-from, router-key}
+use Rattle.heard.specs.Place.{typeAt, sizeAt, flagsAt, keyAt, toldAt, Sized, v4, v6, key, Payload}
+use Rattle.heard.specs.Step.{isWhole, sizedAt}
+use Rattle.heard.proofs.Keys.{two-from, four-from, router-key}
 
 -- ---- bytes behind `at`
 
@@ -40,9 +40,6 @@ module _ (s : Bytes) (at : ℕ) where
 
   pub first-drop : getD (drop at s) 0 0 ≡ getD s at 0
   first-drop = let z : at + 0 ≡ at = omega arith in getD-drop at s 0 0 ∙ ap (λ (i : ℕ). getD s i 0) z
-
-  pub behind-drop : (n : ℕ) → drop n (drop at s) ≡ drop (at + n) s
-  behind-drop n = drop-drop n at s
 
 -- ---- whole messages
 

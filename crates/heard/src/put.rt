@@ -3,14 +3,15 @@ use crate::place::size_at;
 use crate::place::type_at;
 use field::words::Words;
 use item::copy::copy;
+use item::copy::store;
+use item::copy::store_two;
 use item::copy::store_word;
 use item::place::Part;
 use number::word_at;
 ghost use mathlib.Core.Path.{_≡_};
-ghost use Prim.Native.Nat.{_+_, _≤_, _<_};
-ghost use lib.ListN.{length, set};
+ghost use Prim.Native.Nat.{_+_, _≤_};
+ghost use lib.ListN.{length};
 ghost use lib.Seq.{sets};
-ghost use Rattle.number.specs.Number.{twoBytes};
 ghost use Rattle.field.specs.Words.{wordsAt};
 ghost use Rattle.heard.specs.Place.{keyAt, Payload};
 ghost use Rattle.heard.specs.Field.{recordField};
@@ -49,23 +50,6 @@ pub(crate) fn six_words(s: &[u8], at: usize) -> Words
     }
 }
 
-// A byte at i.
-fn store_byte(out: &mut [u8], i: usize, x: u8)
-    requires { ⌜ i < length (now out) ⌝ }
-    ensures { λ r. ⌜ now (out .exit) ≡ set (now (out .entry)) i x ⌝ }
-{
-    out[i] = x;
-}
-
-// Two bytes of a number at i, the highest first.
-fn store_pair(out: &mut [u8], i: usize, n: usize)
-    requires { ⌜ (i + 2 ≤ length (now out)) × (n < 65536) ⌝ }
-    ensures { λ r. ⌜ now (out .exit) ≡ sets (now (out .entry)) i (twoBytes n) ⌝ }
-{
-    store_byte(out, i, (n / 256) as u8);
-    store_byte(out, i + 1, (n % 256) as u8);
-}
-
 // The words of a field at i.
 pub(crate) fn store_words(out: &mut [u8], i: usize, w: Words)
     requires { ⌜ Holds (now out) i w ⌝ }
@@ -74,7 +58,7 @@ pub(crate) fn store_words(out: &mut [u8], i: usize, w: Words)
     store_word(out, i, w.first);
     store_word(out, i + 8, w.second);
     store_word(out, i + 16, w.third);
-    store_pair(out, i + 24, w.last);
+    store_two(out, i + 24, w.last);
 }
 
 // The field of a router key's record at i, and its size.
@@ -83,8 +67,8 @@ fn put_key(s: &[u8], at: usize, out: &mut [u8], i: usize) -> usize
     ensures { λ r. ⌜ (r ≡ length (recordField (keyAt (now (s .entry)) at))) × (now (out .exit) ≡ sets (now (out .entry)) i (recordField (keyAt (now (s .entry)) at))) ⌝ }
 {
     let size = size_at(s, at);
-    store_byte(out, i, 2);
-    store_pair(out, i + 1, size - 8);
+    store(out, i, 2);
+    store_two(out, i + 1, size - 8);
     copy(
         s,
         Part {

@@ -1,12 +1,11 @@
 -- A run of the exported calls is the run of the same calls on a history.
-use Prim.Native.Nat.{ℕ, _^_, _<_}
-use mathlib.Core.Path.{_≡_, refl, sym, ap, _∙_}
+use Prim.Native.Nat.{ℕ}
+use mathlib.Core.Path.{_≡_, refl, ap, _∙_}
 use mathlib.Core.List.{List, [], _∷_}
 use mathlib.Core.Bool.{Bool, true, false, not}
-use native.Mathlib.Omega.{arith}
 use lib.Dec.{eqb}
 use lib.ListN.{length}
-use Rattle.order.specs.Map.{All}
+use Rattle.order.proofs.Never.{never}
 use Rattle.serial.specs.declared.Serial.{Serial}
 use Rattle.payload.specs.Content.{Bytes}
 use Rattle.past.specs.declared.state.History.{History}
@@ -104,7 +103,7 @@ hosted-at session keep start k r p e = record {
 -- kind 1 says that the history was created
 done-of : (c : Creation) (start : Serial) → flatCreation c start .kind ≡ 1 → c ≡ creation.Done
 done-of creation.Done start e = refl
-done-of (creation.Refused r) start e = absurd (let z : _≡_ {A = ℕ} 0 1 = e in omega arith)
+done-of (creation.Refused r) start e = never e
 
 -- demand 3, second part, over every run of the exported calls from a taplevung_create that answers kind 1
 pub hosted : EveryHosted

@@ -1,14 +1,13 @@
 -- Laws of copying into a lent slice.
-use Prim.Native.Nat.{ℕ, suc, _+_, _-_, _*_, _/_, _%_, _<_, _≤_, min}
+use Prim.Native.Nat.{ℕ, suc, _+_, _-_, _/_, _%_, _<_, _≤_, min}
 use mathlib.Core.Path.{_≡_, refl, sym, ap, _∙_}
-use mathlib.Core.List.{List, [], _∷_, _++_}
+use mathlib.Core.List.{[], _∷_}
 use native.Mathlib.Decide.{decLe}
-use native.Mathlib.Nat.{add-zero}
 use native.Mathlib.Omega.{arith}
 use mir.Syntax.{w8, w64}
 use mir.Val.{Fits}
-use lib.ListN.{length, getD, take, drop, set, length-set, length-take, length-drop}
-use lib.Seq.{sets, set-out, length-sets, take-add, drop-drop, drop-cons, length-take-le}
+use lib.ListN.{length, getD, take, drop, set, length-set, length-drop}
+use lib.Seq.{sets, length-sets, take-add, drop-drop, drop-cons, length-take-le}
 use Rattle.number.specs.Number.{wordAt, twoBytes, fourBytes, wordBytes}
 use Rattle.number.proofs.Numbers.{bytes-of-word}
 use Rattle.payload.specs.Content.{Bytes}

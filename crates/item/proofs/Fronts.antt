@@ -1,7 +1,7 @@
 -- Laws of fronts: they are ordered as the keys are, and eight bytes of a field give its key's.
-use Prim.Native.Nat.{ℕ, zero, suc, _+_, _*_, _-_, _/_, _≤_, _<_}
+use Prim.Native.Nat.{ℕ, zero, suc, _+_, _*_, _/_, _≤_, _<_}
 use mathlib.Core.Path.{_≡_, refl, sym, ap, _∙_}
-use mathlib.Core.List.{List, [], _∷_}
+use mathlib.Core.List.{[], _∷_}
 use mathlib.Core.Bool.{Bool, true, false, cond, false≢true}
 use native.Mathlib.Omega.{arith}
 use native.Mathlib.Decide.{decLe}
@@ -14,6 +14,7 @@ use lib.Seq.{getD-take, getD-drop, drop-drop, take-take}
 use Rattle.order.specs.declared.Ordering.{Ordering}
 use Rattle.order.specs.declared.Ordering.the-variants.{Less, Equal, Greater}
 use Rattle.order.specs.Comparison.{flip, orElse, number, bytes}
+use Rattle.order.proofs.Never.{never}
 use Rattle.order.proofs.Comparison.{strings, less-number, equal-number, less≢greater}
 use Rattle.number.specs.Number.{fourAt, wordAt}
 use Rattle.number.specs.Bytes.{AllBytes}
@@ -169,7 +170,7 @@ unfolding goodRouterKey
 key-long b e = leb-true 24 (length b) (both (leb 24 (length b)) _ e .0)
 
 long-tagged : (t : Tag) (b : Bytes) → goodTagged t b ≡ true → (4 ≤ length b) × ((kindNumber t ≡ 3 → ⊥) → 7 ≤ length b)
-long-tagged Unknown b e = absurd (let z : _≡_ {A = ℕ} 0 1 = cc in omega arith)
+long-tagged Unknown b e = never cc
 long-tagged (Origin action) b e = let n = origin-size b e in (omega arith, λ h. omega arith)
 long-tagged (RouterKey action) b e = let n = key-long b e in (omega arith, λ h. omega arith)
 long-tagged (Aspa action) b e = (long-aspa action b e, λ h. absurd (h refl))

@@ -38,7 +38,8 @@ low-kind form tag = go (tagOf form tag)
     go (RouterKey a) = omega arith
     go (Aspa a) = omega arith
 
-key-octets : (kind : ℕ) (b : Bytes) → kind < 256 → AllBytes b → AllBytes (keyOf kind b)
+-- a key of a kind and bytes is of bytes
+pub key-octets : (kind : ℕ) (b : Bytes) → kind < 256 → AllBytes b → AllBytes (keyOf kind b)
 unfolding keyOf
 key-octets kind b h o = go (eqb kind 3)
   where

@@ -1,12 +1,11 @@
 -- Laws of writing into a lent slice.
-use Prim.Native.Nat.{ℕ, suc, _+_, _-_, _*_, _/_, _%_, _^_, _<_, _≤_, min}
+use Prim.Native.Nat.{ℕ, suc, _+_, _*_, _/_, _%_, _^_, _<_, _≤_}
 use mathlib.Core.Path.{_≡_, refl, sym, ap, _∙_}
 use mathlib.Core.List.{[], _∷_, _++_}
-use native.Mathlib.Decide.{decLe}
 use native.Mathlib.Omega.{arith}
 use native.Mathlib.Nat.{add-zero}
-use lib.ListN.{length, getD, take, drop, set, length-set, length-append, length-take, length-drop}
-use lib.Seq.{sets, set-out, drop-cons}
+use lib.ListN.{length, set, length-append, length-take, length-drop}
+use lib.Seq.{sets, set-out}
 use Rattle.body.specs.declared.tag.Form.{Form}
 use Rattle.body.specs.declared.tag.Form.the-variants.{Snapshot, Delta}
 use Rattle.payload.specs.Content.{Bytes, countOf, valuesFor}

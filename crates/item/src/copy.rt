@@ -11,7 +11,7 @@ ghost use Rattle.item.specs.Place.{Lies, partIn};
 ghost use Rattle.item.specs.Copy.{Spans};
 
 // A byte at i.
-fn store(out: &mut [u8], i: usize, x: u8)
+pub fn store(out: &mut [u8], i: usize, x: u8)
     requires { ⌜ i < length (now out) ⌝ }
     ensures { λ r. ⌜ now (out .exit) ≡ set (now (out .entry)) i x ⌝ }
 {
@@ -19,7 +19,7 @@ fn store(out: &mut [u8], i: usize, x: u8)
 }
 
 // The two bytes of a number at i, the highest first.
-fn store_two(out: &mut [u8], i: usize, n: usize)
+pub fn store_two(out: &mut [u8], i: usize, n: usize)
     requires { ⌜ (i + 2 ≤ length (now out)) × (n < 65536) ⌝ }
     ensures { λ r. ⌜ now (out .exit) ≡ sets (now (out .entry)) i (twoBytes n) ⌝ }
 {

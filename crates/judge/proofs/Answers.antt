@@ -1,10 +1,9 @@
 -- Worked answers of the entry, by computation: an answer of session 2 that announces 192.0.2.0/24-26 of AS 64496, for serial 7.
 use Prim.Native.Nat.{ℕ}
 use mathlib.Core.Path.{_≡_, refl}
-use mathlib.Core.List.{List, [], _∷_, _++_}
+use mathlib.Core.List.{[], _∷_, _++_}
 use lib.ListN.{replicate}
 use Rattle.order.specs.Walk.{walk}
-use Rattle.number.specs.Number.{twoBytes, fourBytes}
 use Rattle.body.specs.Tag.{tagOf, kindOf, goodBody, sensible}
 use Rattle.body.specs.Origin.{clean, goodPrefix, goodOrigin}
 use Rattle.field.specs.Head.{front}

@@ -1,9 +1,9 @@
 -- Laws of the search for messages at fault.
-use Prim.Native.Nat.{ℕ, zero, suc, _+_, _-_, _^_, _<_, _≤_}
-use mathlib.Core.Path.{_≡_, refl, sym, ap, ap₂, subst, _∙_}
-use mathlib.Core.List.{List, [], _∷_, _++_, append-nil}
-use mathlib.Core.Bool.{Bool, true, false, not, cond, _&&_}
-use mathlib.Core.Option.{Option, none, some}
+use Prim.Native.Nat.{ℕ, _+_, _^_, _<_, _≤_}
+use mathlib.Core.Path.{_≡_, refl, sym, ap, subst, _∙_}
+use mathlib.Core.List.{List, [], _∷_, _++_}
+use mathlib.Core.Bool.{Bool, true, false, not, cond}
+use mathlib.Core.Option.{some}
 use native.Mathlib.Omega.{arith}
 use native.Mathlib.Numerals.{add-one}
 use borrow.Author.Tests.{eq-eqb, ne-eqb, eqb-true, eqb-false, lt-ltb, le-ltb, not-true, not-false}
@@ -13,7 +13,7 @@ use lib.Seq.{drop-cons, getD-take}
 use Rattle.order.specs.declared.Ordering.{Ordering}
 use Rattle.order.specs.declared.Ordering.the-variants.{Less, Equal, Greater}
 use Rattle.order.specs.Comparison.{bytes, flip}
-use Rattle.order.specs.Map.{Item, All, lookup, own, Below, Sorted}
+use Rattle.order.specs.Map.{Item, All, lookup, own}
 use Rattle.order.proofs.Comparison.{strings}
 use Rattle.order.proofs.Map.{absent}
 use Rattle.change.specs.Difference as change
@@ -23,18 +23,16 @@ use Rattle.payload.specs.Payload.{items}
 use Rattle.item.specs.declared.reading.Reading.the-variants.{Announced}
 use Rattle.item.specs.Reading.{Ready}
 use Rattle.heard.specs.Place.{keyAt, announcesAt, Payload, before, precedes}
+use Rattle.sorting.proofs.Precede.{true≢false}
 use Rattle.batch.specs.Next.{isAbove}
 use Rattle.judge.specs.declared.find.Found.{Found}
 use Rattle.judge.specs.declared.check.Check.{Check}
-use Rattle.judge.specs.Walk.{isSome, has, follows, stands, isFault, lesser, leastFault}
-use Rattle.judge.specs.State.{Last, no, one, Next, Chain, end, on, lastOf, Beyond, first, above, Finds, Checked, ChecksOne, Checks, Batched}
+use Rattle.judge.specs.Walk.{isSome, has, follows, isFault, lesser, leastFault}
+use Rattle.judge.specs.State.{Last, no, one, Next, Chain, on, lastOf, Beyond, first, above, Finds, Checked, ChecksOne, Checks, Batched}
 use Rattle.judge.proofs.Finding.{sorted-from}
 
 abbrev S : Type 0
 S = change.Snapshot Bytes Bytes
-
-pub true≢false : {X : Type 0} {b : Bool} → b ≡ true → b ≡ false → X
-true≢false p q = absurd (let z : _≡_ {A = ℕ} 0 1 = cc in omega arith)
 
 -- ---- is_next
 
@@ -186,10 +184,10 @@ pub ruleset ones = (checked-last, checked-ready, checked-payload, one-follows, o
 
 -- ---- check_batch
 
-chain-next : (s : Bytes) (last x : ℕ) (xs : List ℕ) → Chain s last (x ∷ xs) → Next s last x
+pub chain-next : (s : Bytes) (last x : ℕ) (xs : List ℕ) → Chain s last (x ∷ xs) → Next s last x
 chain-next s last x xs (on n c) = n
 
-chain-rest : (s : Bytes) (last x : ℕ) (xs : List ℕ) → Chain s last (x ∷ xs) → Chain s x xs
+pub chain-rest : (s : Bytes) (last x : ℕ) (xs : List ℕ) → Chain s last (x ∷ xs) → Chain s x xs
 chain-rest s last x xs (on n c) = c
 
 -- the next of the first n of a list

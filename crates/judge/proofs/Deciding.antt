@@ -17,8 +17,8 @@ use Rattle.message.specs.Hear.{Told}
 use Rattle.message.specs.Take.{Taken, all, misfit, asItem, take}
 use Rattle.heard.specs.Place.{sizeAt, announcesAt, toldAt, Payload, Messages, done, more}
 use Rattle.sorting.specs.Sorted.{sorted}
+use Rattle.batch.proofs.Keeping.{size-some, messages-ahead}
 use Rattle.judge.specs.Walk.{leastFault, settled}
-use Rattle.judge.proofs.Sorting.{some-size, messages-stop}
 use Rattle.judge.proofs.Faults.{faultIn, least-fault}
 use Rattle.judge.proofs.Settled.{misfit≢all, taken-settled}
 
@@ -38,7 +38,7 @@ taken-misfit s {stop = stop} A t (more {at = x} {xs = xs} p ms) e =
     go (fits bytes (lookup bytes (toldAt s x .key) A) (toldAt s x .change)) e (taken-misfit s (apply bytes A (asItem (toldAt s x) ∷ [])) t ms)
   where
     here : toldAt s x ≡ t → Misfit s x stop t
-    here q = rw (← q) (record { told = refl; payload = p; from = omega arith; within = omega (arith, some-size s (p .sized), messages-stop s ms) })
+    here q = rw (← q) (record { told = refl; payload = p; from = omega arith; within = omega (arith, size-some s x p, messages-ahead ms) })
 
     go : (b : Bool) → cond b (take (apply bytes A (asItem (toldAt s x) ∷ [])) (map (toldAt s) xs)) (misfit (toldAt s x)) ≡ misfit t →
         (take (apply bytes A (asItem (toldAt s x) ∷ [])) (map (toldAt s) xs) ≡ misfit t → Misfit s (x + sizeAt s x) stop t) → Misfit s x stop t

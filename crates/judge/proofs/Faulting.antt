@@ -1,18 +1,13 @@
 -- Laws of the loop over batches for the least fault.
-use Prim.Native.Nat.{ℕ, _+_, _-_, _<_, _≤_}
-use mathlib.Core.Path.{_≡_, refl, sym, ap, subst, _∙_}
-use mathlib.Core.List.{List, [], _∷_, _++_, append-nil}
-use mathlib.Core.Bool.{Bool, true, false}
+use Prim.Native.Nat.{ℕ, _+_, _<_, _≤_}
+use mathlib.Core.Path.{_≡_, refl, sym, ap, _∙_}
+use mathlib.Core.List.{List, [], _++_, append-nil}
+use mathlib.Core.Bool.{true, false}
 use native.Mathlib.Omega.{arith}
 use lib.ListN.{length, take, drop, take-append-drop, length-drop, length-take}
 use lib.Seq.{take-all}
-use Rattle.order.specs.Map.{lookup}
-use Rattle.order.specs.Comparison.{bytes}
 use Rattle.payload.specs.Content.{Bytes}
 use Rattle.payload.specs.Payload.{items}
-use Rattle.item.specs.declared.reading.Reading.the-variants.{Announced}
-use Rattle.item.specs.Reading.{Ready}
-use Rattle.heard.specs.Place.{Payload, Messages}
 use Rattle.batch.specs.declared.next.Batch.{Batch}
 use Rattle.batch.specs.Next.{left, NextIs}
 use Rattle.judge.specs.declared.check.Check.{Check}
@@ -21,7 +16,7 @@ use Rattle.batch.specs.Keep.{Told, Bound}
 use Rattle.batch.specs.Keep as keep
 use Rattle.batch.specs.Map.{Marked, Hinted}
 pub use Rattle.judge.specs.State.{offsets}
-use Rattle.judge.specs.State.{ordered, Given, Charted, Last, no, one, Chain, lastOf, Beyond, Checked, Checks, Batched}
+use Rattle.judge.specs.State.{ordered, Given, Charted, Last, no, one, lastOf, Checked, Checks, Batched}
 use Rattle.judge.proofs.Leaving.{chain-left, left-on, left-all, chain-take}
 
 -- what is left behind a message

@@ -16,8 +16,10 @@ use Rattle.message.specs.Take.{Taken, all, misfit, take}
 use Rattle.message.proofs.Taking.{take-none}
 use Rattle.heard.specs.Place.{keyAt, announcesAt, toldAt, Messages, done, more}
 use Rattle.sorting.specs.Sorted.{insert, sorted}
+use Rattle.sorting.proofs.Sorting.{cons, insert-none}
+use Rattle.batch.proofs.Keeping.{size-some, messages-ahead}
 use Rattle.judge.specs.Walk.{has, follows, stands, isFault, lesser, leastFault}
-use Rattle.judge.proofs.Sorting.{between, less-apart, turned, Side, side, front, behind, Past, past-all, Ascends, InOrder, ascends-order, insert-end, insert-front, insert-behind, some-size, messages-stop, first-past, sorted-end, sorted-more, sorted-order, Under, nothing, below, follows-same, follows-apart, under-apart}
+use Rattle.judge.proofs.Sorting.{between, less-apart, turned, Side, side, front, behind, Past, past-all, Ascends, InOrder, ascends-order, insert-front, insert-behind, first-past, sorted-end, sorted-more, sorted-order, Under, nothing, below, follows-same, follows-apart, under-apart}
 use Rattle.judge.proofs.Records.{wrong, after, after-map, after-same, has-other, take-right, take-wrong}
 
 -- ---- the walk's steps
@@ -49,9 +51,9 @@ module _ (A C : change.Snapshot Bytes Bytes) (s : Bytes) (x : ℕ) (other : (k :
   behind-same : (last least : ℕ) (ys : List ℕ) → 0 < last → AtMost strings (keyAt s x) (keyAt s last) → Ascends s last ys → Past 0 ys →
       leastFault C s last least ys ≡ leastFault A s last least ys
   behind-same last least [] l p a o = rw (fault-end C s last least, fault-end A s last least)
-  behind-same last least (y ∷ ys) l p a o =
+  behind-same last least (y ∷ ys) l p a (cons q o) =
       rw (fault-more C s last least y ys, fault-more A s last least y ys, stands-behind last y l p (a .0))
-      (behind-same y (lesser (isFault A s last y) y least) ys (o .0) (at-most-trans strings (keyAt s x) (keyAt s last) (keyAt s y) p (a .0)) (a .1) (o .1))
+      (behind-same y (lesser (isFault A s last y) y least) ys q (at-most-trans strings (keyAt s x) (keyAt s last) (keyAt s y) p (a .0)) (a .1) o)
 
   module _ (pos : 0 < x) (same : has C (keyAt s x) ≡ announcesAt s x) (right : wrong A s x ≡ false) where
     -- x itself is no fault where no message of its record stands before it
@@ -69,24 +71,24 @@ module _ (A C : change.Snapshot Bytes Bytes) (s : Bytes) (x : ℕ) (other : (k :
     pub right-inserted : (last least : ℕ) (ys : List ℕ) → Under s last x → InOrder s ys → Past x ys →
         leastFault A s last least (insert s x ys) ≡ leastFault C s last least ys
     right-inserted last least [] u a p =
-        rw (insert-end s x, fault-more A s last least x [], right-first last u, fault-end A s x least, fault-end C s last least)
-    right-inserted last least (y ∷ ys) u a p = go (side (bytes (keyAt s x) (keyAt s y)))
-        (λ l v. right-inserted y l ys v (ascends-order s y ys a) (p .1))
+        rw (insert-none s x, fault-more A s last least x [], right-first last u, fault-end A s x least, fault-end C s last least)
+    right-inserted last least (y ∷ ys) u a (cons q p) = go (side (bytes (keyAt s x) (keyAt s y)))
+        (λ l v. right-inserted y l ys v (ascends-order s y ys a) p)
       where
         pos-y : 0 < y
-        pos-y = omega (arith, p .0)
+        pos-y = omega (arith, q)
 
         go : Side (bytes (keyAt s x) (keyAt s y)) → ((l : ℕ) → Under s y x → leastFault A s y l (insert s x ys) ≡ leastFault C s y l ys) →
             leastFault A s last least (insert s x (y ∷ ys)) ≡ leastFault C s last least (y ∷ ys)
         go (front f) i =
             rw (
-              insert-front s x y ys (p .0) f,
+              insert-front s x y ys q f,
               fault-more A s last least x (y ∷ ys),
               right-first last u,
               fault-more A s x least y ys,
               fault-more C s last least y ys,
               stands-next last y u f,
-            ) (sym (behind-same y (lesser (isFault C s last y) y least) ys pos-y f a (past-all x ys (p .1))))
+            ) (sym (behind-same y (lesser (isFault C s last y) y least) ys pos-y f a (past-all x ys p)))
         go (behind b) i =
             let l = turned (keyAt s x) (keyAt s y) b in
             rw (
@@ -115,8 +117,8 @@ module _ (A : change.Snapshot Bytes Bytes) (s : Bytes) where
 
   stays : (last least : ℕ) (ys : List ℕ) → Past least ys → leastFault A s last least ys ≡ least
   stays last least [] p = fault-end A s last least
-  stays last least (y ∷ ys) p =
-      rw (fault-more A s last least y ys, not-lesser (isFault A s last y) y least (p .0)) (stays y least ys (p .1))
+  stays last least (y ∷ ys) (cons q p) =
+      rw (fault-more A s last least y ys, not-lesser (isFault A s last y) y least q) (stays y least ys p)
 
   module _ (x : ℕ) (pos : 0 < x) (bad : wrong A s x ≡ true) where
     bad-first : (last least : ℕ) → Under s last x → x < least → lesser (isFault A s last x) x least ≡ x
@@ -124,17 +126,17 @@ module _ (A : change.Snapshot Bytes Bytes) (s : Bytes) where
 
     pub wrong-inserted : (last least : ℕ) (ys : List ℕ) → Under s last x → Past x ys → x < least → leastFault A s last least (insert s x ys) ≡ x
     wrong-inserted last least [] u p l =
-        rw (insert-end s x, fault-more A s last least x [], bad-first last least u l) (fault-end A s x x)
-    wrong-inserted last least (y ∷ ys) u p l = go (side (bytes (keyAt s x) (keyAt s y)))
-        (λ v. wrong-inserted y (lesser (isFault A s last y) y least) ys v (p .1) (lesser-past (isFault A s last y) x y least (p .0) l))
+        rw (insert-none s x, fault-more A s last least x [], bad-first last least u l) (fault-end A s x x)
+    wrong-inserted last least (y ∷ ys) u (cons q p) l = go (side (bytes (keyAt s x) (keyAt s y)))
+        (λ v. wrong-inserted y (lesser (isFault A s last y) y least) ys v p (lesser-past (isFault A s last y) x y least q l))
       where
         go : Side (bytes (keyAt s x) (keyAt s y)) → (Under s y x → leastFault A s y (lesser (isFault A s last y) y least) (insert s x ys) ≡ x) →
             leastFault A s last least (insert s x (y ∷ ys)) ≡ x
         go (front f) i =
-            rw (insert-front s x y ys (p .0) f, fault-more A s last least x (y ∷ ys), bad-first last least u l) (stays x x (y ∷ ys) p)
+            rw (insert-front s x y ys q f, fault-more A s last least x (y ∷ ys), bad-first last least u l) (stays x x (y ∷ ys) (cons q p))
         go (behind b) i =
             rw (insert-behind s x y ys b, fault-more A s last least y (insert s x ys))
-            (i (below (omega (arith, p .0)) (turned (keyAt s x) (keyAt s y) b)))
+            (i (below (omega (arith, q)) (turned (keyAt s x) (keyAt s y) b)))
 
 -- ---- all messages
 
@@ -151,7 +153,7 @@ module _ (s : Bytes) where
       go (wrong A s x) refl (least-fault (after A s x) none (after-map A s x p m) (omega arith) h ms)
     where
       within : x < none
-      within = omega (arith, some-size s (p .sized), messages-stop s ms)
+      within = omega (arith, size-some s x p, messages-ahead ms)
 
       go : (b : Bool) → wrong A s x ≡ b → leastFault (after A s x) s 0 none (sorted s xs) ≡ faultIn none (take (after A s x) (map (toldAt s) xs)) →
           leastFault A s 0 none (sorted s (x ∷ xs)) ≡ faultIn none (take A (map (toldAt s) (x ∷ xs)))

@@ -1,7 +1,7 @@
 -- Laws of the search for a record in the snapshot.
-use Prim.Native.Nat.{ℕ, zero, suc, _+_, _-_, _<_, _≤_}
+use Prim.Native.Nat.{ℕ, _+_, _-_, _<_, _≤_}
 use mathlib.Core.Path.{_≡_, refl, sym, ap, ap₂, subst, _∙_}
-use mathlib.Core.List.{List, [], _∷_, _++_, map, append-nil, append-assoc}
+use mathlib.Core.List.{List, [], _∷_, _++_, map, append-assoc}
 use mathlib.Core.Bool.{Bool, true, false, cond}
 use native.Mathlib.Omega.{arith}
 use native.Mathlib.Nat.{zero-add}
@@ -9,13 +9,15 @@ use mir.Syntax.{w8}
 use mir.Val.{Fits}
 use borrow.Author.Tests.{ltb-true}
 use lib.Dec.{eqb, ltb}
-use lib.ListN.{length, getD, take, drop, replicate, length-append, length-drop, length-take, length-replicate, getD-replicate, List·getD-append, List·getD-eq-default}
+use lib.ListN.{length, getD, take, drop, replicate, length-append, length-drop, length-take, length-replicate}
 use lib.Seq.{sets, take-at, drop-drop, take-add, sets-eq, length-sets}
 use Rattle.order.specs.declared.Ordering.{Ordering}
 use Rattle.order.specs.declared.Ordering.the-variants.{Less, Equal, Greater}
 use Rattle.order.specs.Comparison.{bytes, flip}
-use Rattle.order.specs.Map.{Item, All, lookup, own, Below, Sorted}
+use Rattle.order.specs.Map.{Item, All, Below, Sorted}
+use Rattle.order.proofs.Never.{never}
 use Rattle.order.proofs.Comparison.{strings}
+use Rattle.order.proofs.Map.{all-append}
 use Rattle.change.specs.Change.{Change}
 use Rattle.change.specs.Difference as change
 use Rattle.number.specs.Number.{wordAt}
@@ -23,7 +25,6 @@ use Rattle.number.specs.Bytes.{part, AllBytes}
 use Rattle.body.specs.declared.tag.Form.the-variants.{Snapshot}
 use Rattle.body.specs.Tag.{kindOf}
 use Rattle.body.proofs.Digits.{snapshot-kind}
-use Rattle.field.specs.declared.key.Key.{Key}
 use Rattle.field.specs.Cells.{Cell, cells, field}
 use Rattle.field.specs.Cells as run
 pub use Rattle.field.specs.Places.{keyIn}
@@ -39,12 +40,14 @@ use Rattle.item.specs.declared.reading.Read.{Read}
 use Rattle.item.specs.declared.reading.Read.the-variants.{End, One}
 use Rattle.item.specs.Front.{frontKey, frontIn}
 use Rattle.item.specs.Reading.{Ready, FieldIs, Reads}
-use Rattle.item.proofs.Fronts.{front-less, drop-bytes, take-bytes, cons-bytes}
+use Rattle.item.proofs.Fronts.{front-less, drop-bytes}
 use Rattle.item.proofs.Heres.{here, cell, said, front-is}
 use Rattle.item.proofs.Heres as heres
 use Rattle.turn.specs.Seek.{Seeks}
 use Rattle.heard.specs.Place.{typeAt, sizeAt, keyAt, Payload, Sized, v4, v6, key}
 use Rattle.heard.specs.Field.{recordField}
+use Rattle.heard.proofs.Comparing.{key-octets}
+use Rattle.heard.proofs.Places.{size-most}
 use Rattle.judge.specs.declared.find.Found.{Found}
 use Rattle.judge.specs.State.{Finds, IsPast}
 
@@ -87,10 +90,6 @@ pub record Seeking (a : Bytes) (from : ℕ) (k : Bytes) (at : ℕ) : Type 0 wher
   pub on : from ≤ at
   pub start : Ready Announced a from
   pub ready : Ready Announced a at
-
-all-append : {A : Type 0} (P : A → Type 0) (a b : List A) → All P a → All P b → All P (a ++ b)
-all-append P [] b x y = y
-all-append P (z ∷ a) b x y = (x .0, all-append P a b (x .1) y)
 
 no-images : {A B : Type 0} (f : A → B) (l : List A) → l ≡ [] → map f l ≡ []
 no-images f l e = ap (map f) e
@@ -183,16 +182,6 @@ pub ruleset keys = (seeking-start, seeking-ready, found-end, found-not, found-he
 
 -- ---- the record of a message
 
-append-bytes : (a b : Bytes) → AllBytes a → AllBytes b → AllBytes (a ++ b)
-append-bytes [] b p q i = q i
-append-bytes (x ∷ a) b p q zero = p 0
-append-bytes (x ∷ a) b p q (suc i) = append-bytes a b (λ j. p (suc j)) q i
-
-zero-bytes : (n : ℕ) → AllBytes (replicate n 0)
-zero-bytes zero i = omega arith
-zero-bytes (suc n) zero = omega arith
-zero-bytes (suc n) (suc i) = zero-bytes n i
-
 module _ (s : Bytes) (at : ℕ) where
   abbrev four-key : Bytes
   four-key = 1 ∷ 4 ∷ (part s (at + 12) (at + 16) ++ (replicate 12 0 ++ (getD s (at + 9) 0 ∷ getD s (at + 10) 0 ∷ part s (at + 16) (at + 20))))
@@ -212,43 +201,8 @@ module _ (s : Bytes) (at : ℕ) where
       go false true = refl
       go false false = refl
 
-  module _ (o : (i : ℕ) → Fits w8 (getD s i 0)) where
-    octets : AllBytes s
-    octets i = o i .fits
-
-    part-bytes : (from to : ℕ) → AllBytes (part s from to)
-    part-bytes from to = take-bytes (to - from) (drop from s) (drop-bytes from s octets)
-
-    tail-bytes : (from to : ℕ) → AllBytes (getD s (at + 9) 0 ∷ getD s (at + 10) 0 ∷ part s from to)
-    tail-bytes from to = cons-bytes (getD s (at + 9) 0) (getD s (at + 10) 0 ∷ part s from to) (octets (at + 9)) (cons-bytes (getD s (at + 10) 0) (part s from to) (octets (at + 10)) (part-bytes from to))
-
-    pub key-bytes : AllBytes (keyAt s at)
-    unfolding keyAt
-    key-bytes = go (eqb (typeAt s at) 4) (eqb (typeAt s at) 6)
-      where
-        behind4 : Bytes
-        behind4 = replicate 12 0 ++ (getD s (at + 9) 0 ∷ getD s (at + 10) 0 ∷ part s (at + 16) (at + 20))
-
-        behind6 : Bytes
-        behind6 = getD s (at + 9) 0 ∷ getD s (at + 10) 0 ∷ part s (at + 28) (at + 32)
-
-        go : (b c : Bool) → AllBytes (cond b four-key (cond c six-key router-key))
-        go true c =
-            cons-bytes 1 (4 ∷ (part s (at + 12) (at + 16) ++ behind4)) (omega arith)
-            (cons-bytes 4 (part s (at + 12) (at + 16) ++ behind4) (omega arith)
-            (append-bytes (part s (at + 12) (at + 16)) behind4 (part-bytes (at + 12) (at + 16)) (append-bytes (replicate 12 0) (getD s (at + 9) 0 ∷ getD s (at + 10) 0 ∷ part s (at + 16) (at + 20)) (zero-bytes 12) (tail-bytes (at + 16) (at + 20)))))
-        go false true =
-            cons-bytes 1 (6 ∷ (part s (at + 12) (at + 28) ++ behind6)) (omega arith)
-            (cons-bytes 6 (part s (at + 12) (at + 28) ++ behind6) (omega arith) (append-bytes (part s (at + 12) (at + 28)) behind6 (part-bytes (at + 12) (at + 28)) (tail-bytes (at + 28) (at + 32))))
-        go false false = cons-bytes 2 (part s (at + 8) (at + sizeAt s at)) (omega arith) (part-bytes (at + 8) (at + sizeAt s at))
-
   part-short : (from to : ℕ) → length (part s from to) ≤ to - from
   part-short from to = omega (arith, length-take (to - from) (drop from s))
-
-  size-small : Sized s at → sizeAt s at ≤ 1056
-  size-small (v4 t e) = omega (arith, e)
-  size-small (v6 t e) = omega (arith, e)
-  size-small (key t l h) = h
 
   pub key-short : Payload s at → length (keyAt s at) ≤ 1_049
   unfolding keyAt
@@ -269,7 +223,7 @@ module _ (s : Bytes) (at : ℕ) where
           omega (arith, p, q, t)
       go false false =
           let q : length (part s (at + 8) (at + sizeAt s at)) ≤ at + sizeAt s at - (at + 8) = part-short (at + 8) (at + sizeAt s at) in
-          let z = size-small (p .sized) in
+          let z = size-most s at p in
           omega (arith, q, z)
 
 -- ---- a record by its name
@@ -359,7 +313,7 @@ module _ (a : Bytes) (at : ℕ) (r : Ready Announced a at) (front : ℕ) where
       none (y ∷ l) z = absurd (omega arith)
 
   pub past-unsure : IsPast a at front false
-  past-unsure = record { past = λ q. absurd (let z : _≡_ {A = ℕ} 0 1 = cc in omega arith) }
+  past-unsure = record { past = λ q. never cc }
 
   module _ (h : 11 ≤ length a - at) where
     pub past-in : at < length a
@@ -387,7 +341,7 @@ module _ (a : Bytes) (from : ℕ) (s : Bytes) (x : ℕ) (p : Payload s x) (os : 
     (b : ℕ) (f : b ≡ frontKey (keyAt s x)) (at count : ℕ) (k : Seeks a from b at count) where
   first-low : (l : S) → All (λ (y : Item Bytes Bytes). frontKey (y .key) < b) l → All (λ (y : Item Bytes Bytes). bytes (y .key) (keyAt s x) ≡ Less) l
   first-low [] w = tt
-  first-low (y ∷ l) w = (front-less (y .key) (keyAt s x) (key-bytes s x os) (rw f at (w .0)), first-low l (w .1))
+  first-low (y ∷ l) w = (front-less (y .key) (keyAt s x) (λ i. key-octets s x os i .fits) (rw f at (w .0)), first-low l (w .1))
 
   pub find-from : Ready Announced a at
   find-from = k .ready

@@ -1,6 +1,6 @@
 -- Laws of the entry.
 use Prim.Native.Nat.{ℕ, _+_, _-_, _*_, _^_, _<_, _≤_}
-use mathlib.Core.Path.{_≡_, refl, sym, ap, ap₂, subst, _∙_}
+use mathlib.Core.Path.{_≡_, refl, sym, ap, _∙_}
 use mathlib.Core.List.{List, [], _∷_, _++_, map}
 use mathlib.Core.Bool.{Bool, true, false, cond}
 use native.Mathlib.Omega.{arith}
@@ -11,7 +11,7 @@ use lib.Dec.{leb}
 use lib.ListN.{length, getD, take, drop, replicate, length-replicate, getD-replicate}
 use lib.Seq.{sets, sets-eq}
 use Rattle.order.specs.Comparison.{bytes}
-use Rattle.change.specs.Difference as change
+use Rattle.order.proofs.Never.{never}
 use Rattle.change.specs.Application.{apply}
 use Rattle.serial.specs.declared.Serial.{Serial}
 use Rattle.serial.specs.declared.Session.{Session}
@@ -26,41 +26,37 @@ use Rattle.payload.specs.Valid.{IsMap}
 use Rattle.payload.specs.Limit.{limit}
 use Rattle.payload.specs.Count.{announces, withdraws, sumOf}
 use Rattle.payload.proofs.Faithful.{faithful}
-use Rattle.item.specs.declared.sink.Counts.{Counts}
 use Rattle.item.specs.declared.reading.Reading.the-variants.{Announced}
 use Rattle.item.proofs.Putting.{counts-path}
 use Rattle.delta.specs.declared.refusal.Refusal.{Refusal}
 use Rattle.delta.specs.declared.refusal.Refusal.the-variants as refusal
 use Rattle.delta.specs.declared.admit.Admitted.{Admitted}
 use Rattle.delta.specs.declared.admit.Admitted.the-variants.{Yes, No}
-use Rattle.delta.specs.Admission.{andThen, limitAdmitted, judgedOf, verdictAdmitted, admitOneOf}
+use Rattle.delta.specs.Admission.{andThen, verdictAdmitted, admitOneOf}
 use Rattle.delta.specs.Answer.{outAfter}
 use Rattle.delta.proofs.Answering.{ready-start}
 use Rattle.message.specs.declared.version.Version.{Version}
 use Rattle.message.specs.Hear as message
-use Rattle.message.specs.Take.{Taken, all, misfit, asItem}
+use Rattle.message.specs.Take.{all, misfit, asItem}
 use Rattle.message.specs.Take as fold
 use Rattle.heard.specs.Place.{keyAt, announcesAt, toldAt, Payload, Messages, done, more}
-use Rattle.sorting.specs.Sorted.{sorted}
 use Rattle.batch.specs.Map.{Surveys, Mapped}
 use Rattle.batch.specs.Map as map
-use Rattle.heard.specs.declared.hear.Stop.{Stop}
+use Rattle.batch.proofs.Keeping.{size-some}
 use Rattle.heard.specs.declared.hear.Stop.the-variants as stop
 use Rattle.heard.specs.declared.hear.Heard.{Heard}
-use Rattle.judge.specs.declared.judge.Judged.{Judged}
 use Rattle.judge.specs.declared.judge.Judged.the-variants.{Accepted, Refused}
 use Rattle.judge.specs.declared.judge.Length.{Length}
 use Rattle.judge.specs.declared.judge.Length.the-variants.{Over, Within}
 use Rattle.judge.specs.Walk.{leastFault, settled}
-use Rattle.judge.specs.Answer.{takenOf, misfitAs, takenAdmitted, stopAdmitted, judgeAdmitted, leaves, resultOf, countsOf, accepted, judgeAnswer, judgeOf, judgeOut}
+use Rattle.judge.specs.Answer.{takenOf, misfitAs, judgeAdmitted, resultOf, judgeOf, judgeOut}
 use Rattle.heard.specs.Field.{recordField}
 use Rattle.heard.specs.Heard.{stopIs, countFlags, sumFields, HeardIs}
 use Rattle.judge.specs.State.{offsets, ordered, Given, Charted, Heeds, leftAll, RoomFor, lengthOf, Balanced}
 use Rattle.judge.proofs.Leaving.{offsets-are}
-use Rattle.judge.proofs.Sorting.{some-size}
 use Rattle.judge.proofs.Finding.{bytes-from}
 use Rattle.judge.proofs.Lengths.{taken-length}
-use Rattle.judge.proofs.Deciding.{FirstMisfit, AllTaken, fault-found, no-fault, announced-told, withdrawn-told}
+use Rattle.judge.proofs.Deciding.{FirstMisfit, fault-found, no-fault, announced-told, withdrawn-told}
 
 -- ---- misfit
 
@@ -107,13 +103,13 @@ within-room m room n = go (leb m room) refl
   where
     go : (b : Bool) → leb m room ≡ b → cond b (Within m) Over ≡ Within n → (m ≤ room) × (n ≡ m)
     go true p e = (leb-true m room p, sym (cc))
-    go false p e = absurd (let z : _≡_ {A = ℕ} 0 1 = cc in omega arith)
+    go false p e = never cc
 
 over-room : (m room : ℕ) → lengthOf m room ≡ Over → room < m
 over-room m room = go (leb m room) refl
   where
     go : (b : Bool) → leb m room ≡ b → cond b (Within m) Over ≡ Over → room < m
-    go true p e = absurd (let z : _≡_ {A = ℕ} 0 1 = cc in omega arith)
+    go true p e = never cc
     go false p e = leb-false m room p
 
 module _ (a s : Bytes) (stop more less : ℕ) (marks hints buf : List ℕ) (b : Balanced a s stop more less marks hints buf) (o : Bytes) (r : Length) (e : r ≡ lengthOf (length a + more - less) (length o)) where
@@ -157,11 +153,11 @@ admitted-fine : (s : Bytes) → admitOneOf Snapshot s ≡ Yes → verdict Snapsh
 admitted-fine s = go (leb (length s) (limit Snapshot)) (verdict Snapshot s)
   where
     go : (b : Bool) (v : Verdict) → andThen (cond b Yes (No (refusal.TooLong 1))) (verdictAdmitted 1 v) ≡ Yes → v ≡ verdict.Fine
-    go false v e = absurd (let z : _≡_ {A = ℕ} 0 1 = cc in omega arith)
+    go false v e = never cc
     go true verdict.Fine e = refl
-    go true (verdict.Bad at) e = absurd (let z : _≡_ {A = ℕ} 0 1 = cc in omega arith)
-    go true (verdict.Senseless at) e = absurd (let z : _≡_ {A = ℕ} 0 1 = cc in omega arith)
-    go true (verdict.NotAbove at) e = absurd (let z : _≡_ {A = ℕ} 0 1 = cc in omega arith)
+    go true (verdict.Bad at) e = never cc
+    go true (verdict.Senseless at) e = never cc
+    go true (verdict.NotAbove at) e = never cc
 
 -- ---- judge
 
@@ -332,7 +328,7 @@ module _ (v : Version) (a m : Bytes) (h : Heard) (k : HeardIs v m h) where
 
       counted : (s : Bytes) {at stop : ℕ} {xs : List ℕ} → Messages s at xs stop → length xs + at ≤ stop
       counted s done = omega arith
-      counted s (more p ms) = omega (arith, counted s ms, some-size s (p .sized))
+      counted s (more {at = at} p ms) = omega (arith, counted s ms, size-some s at p)
 
   pub judge-heeds : (x : Admitted) → x ≡ admitOneOf Snapshot a → x ≡ Yes → (marks hints buf : List ℕ) → Mapped m (h .over) marks hints buf → Heeds v a m h marks hints buf
   judge-heeds x e y marks hints buf c = record { fine = sym e ∙ y; heard = k; mapped = c }

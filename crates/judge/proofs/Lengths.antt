@@ -10,6 +10,7 @@ use Rattle.order.specs.declared.Ordering.{Ordering}
 use Rattle.order.specs.declared.Ordering.the-variants.{Less, Equal, Greater}
 use Rattle.order.specs.Comparison.{bytes, flip}
 use Rattle.order.specs.Map.{Item, own, lookup, Sorted}
+use Rattle.order.proofs.Never.{never}
 use Rattle.order.proofs.Comparison.{strings}
 use Rattle.order.proofs.Map.{none≢some, absent}
 use Rattle.order.proofs.Walk.{walk-nil, walk-right, walk-less, walk-equal, walk-greater}
@@ -100,8 +101,8 @@ module _ (A : change.Snapshot Bytes Bytes) (s : Bytes) (x : ℕ) (p : Payload s 
       go : (f : Bool) (o : Option Bytes) → lookup bytes (keyAt s x) A ≡ o → cond f (isSome o) (not (isSome o)) ≡ false →
           L (apply bytes A (record { key = keyAt s x; val = cond f (announce []) (withdraw []) } ∷ [])) + cond f 0 (fieldLength (keyAt s x)) ≡ L A + cond f (fieldLength (keyAt s x)) 0
       go true none e h = omega (arith, one-new (keyAt s x) [] A e, bare-width (keyAt s x))
-      go true (some v) e h = absurd (let z : _≡_ {A = ℕ} 0 1 = cc in omega arith)
-      go false none e h = absurd (let z : _≡_ {A = ℕ} 0 1 = cc in omega arith)
+      go true (some v) e h = never cc
+      go false none e h = never cc
       go false (some v) e h =
           let q : v ≡ [] = empty-at (keyAt s x) v A (told-record s x p) (m .valid) e in
           let f : lookup bytes (keyAt s x) A ≡ some [] = e ∙ ap some q in

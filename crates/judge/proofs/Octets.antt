@@ -9,6 +9,7 @@ use lib.Dec.{eqb, leb}
 use lib.ListN.{length, getD, drop, replicate}
 use Rattle.order.specs.Comparison.{bytes}
 use Rattle.order.specs.Map.{Item, All}
+use Rattle.order.proofs.Never.{never}
 use Rattle.order.proofs.Comparison.{strings}
 use Rattle.change.specs.Change.{Change, announce, withdraw}
 use Rattle.change.specs.Difference as change
@@ -29,7 +30,7 @@ use Rattle.payload.specs.Content.{Bytes, entryOf, cellFor}
 use Rattle.payload.specs.Valid.{ValidValue, origin, routerKey, aspa}
 use Rattle.payload.specs.Payload.{entries, encode, items}
 use Rattle.payload.proofs.Back.{says-back}
-use Rattle.payload.proofs.Closed.{walk-all}
+use Rattle.payload.proofs.Closed.{At, walk-all}
 use Rattle.payload.proofs.Faithful.{body-bytes, entries-end, entries-more}
 use Rattle.item.proofs.Fronts.{drop-bytes, take-bytes, cons-bytes}
 use Rattle.message.specs.declared.version.Version.{Version}
@@ -39,7 +40,7 @@ use Rattle.message.specs.Record.{Part, opening, payload, ending, misplaced, goo
 use Rattle.message.specs.Read.{messageIn, Front, unread, read, frontOf, front}
 use Rattle.message.specs.Hear.{Told, hearPart, hearFront, hearF, openPart, openFront, hear}
 use Rattle.message.specs.Take.{asItem}
-use Rattle.message.proofs.Telling.{Tells, hear-tells}
+use Rattle.message.proofs.Telling.{Tells, not-payload, hear-tells}
 
 -- ---- lists of bytes
 
@@ -120,11 +121,6 @@ told-bytes t q = rw (q .0 .is) (go (q .0 .flag))
     go true = brings (bare-bytes (t .key) (q .0 .value) (q .1))
     go false = goes
 
--- a property of what stands at a key, if anything does
-abbrev At : {K C : Type 0} → (K → C → Type 0) → K → Option C → Type 0
-At R k none = Unit {0}
-At R k (some c) = R k c
-
 pub taken-bytes : (A : change.Snapshot Bytes Bytes) (t : Told) → TellsBytes t → All ItemBytes A → All ItemBytes (apply bytes A (asItem t ∷ []))
 taken-bytes A t q h = walk-all strings applyAt FieldBytes NewBytes FieldBytes (λ k a g. g) right both A (asItem t ∷ []) h (told-bytes t q, tt)
   where
@@ -145,14 +141,11 @@ MessageBytes m = (k : Bytes) (c : Change Bytes) → partOf m ≡ payload k c →
 abbrev FoundBytes : Option Message → Type 0
 FoundBytes o = (m : Message) → o ≡ some m → MessageBytes m
 
-not-payload : {X : Type 0} {k : Bytes} {c : Change Bytes} → misplaced ≡ payload k c → X
-not-payload e = absurd (let z : _≡_ {A = ℕ} 0 1 = cc in omega arith)
-
 not-opening : {X : Type 0} {session : ℕ} {k : Bytes} {c : Change Bytes} → opening session ≡ payload k c → X
-not-opening e = absurd (let z : _≡_ {A = ℕ} 0 1 = cc in omega arith)
+not-opening e = never cc
 
 not-ending : {X : Type 0} {session serial : ℕ} {times : Timing} {k : Bytes} {c : Change Bytes} → ending session serial times ≡ payload k c → X
-not-ending e = absurd (let z : _≡_ {A = ℕ} 0 1 = cc in omega arith)
+not-ending e = never cc
 
 payload-key : (flags : ℕ) (l k : Bytes) (c : Change Bytes) → payloadOf flags l ≡ payload k c → l ≡ k
 payload-key flags l k c = go (goodRecord l) (eqb flags 1) (eqb flags 0)
@@ -167,7 +160,7 @@ payload-bytes : (flags : ℕ) (l : Bytes) → AllBytes l → (k : Bytes) (c : Ch
 payload-bytes flags l h k c e = subst AllBytes {x = l} {y = k} (payload-key flags l k c e) h
 
 no-message : FoundBytes none
-no-message m e = absurd (let z : _≡_ {A = ℕ} 0 1 = cc in omega arith)
+no-message m e = never cc
 
 the-message : (m : Message) → MessageBytes m → FoundBytes (some m)
 the-message m h n e = let q : m ≡ n = cc in rw (← q) h
@@ -237,7 +230,7 @@ front-bytes v s h m n rest =
     (message-bytes s h v (getD s 1 0) (fourAt s 4))
   where
     unread≢read : {X : Type 0} → unread ≡ read m n rest → X
-    unread≢read e = absurd (let z : _≡_ {A = ℕ} 0 1 = cc in omega arith)
+    unread≢read e = never cc
 
     go : (b : Bool) (o : Option Message) → FoundBytes o → cond b (frontOf o (fourAt s 4) (drop (fourAt s 4) s)) unread ≡ read m n rest → MessageBytes m × AllBytes rest
     go true (some m′) f e =

@@ -1,8 +1,8 @@
 -- Laws of the loop over batches that writes.
-use Prim.Native.Nat.{ℕ, _+_, _-_, _<_, _≤_}
+use Prim.Native.Nat.{ℕ, _+_, _<_, _≤_}
 use mathlib.Core.Path.{_≡_, refl, sym, ap, ap₂, subst, _∙_}
-use mathlib.Core.List.{List, [], _∷_, _++_, append-nil, append-assoc}
-use mathlib.Core.Bool.{Bool, true, false}
+use mathlib.Core.List.{List, [], _++_, append-assoc}
+use mathlib.Core.Bool.{true, false}
 use native.Mathlib.Omega.{arith}
 use native.Mathlib.Nat.{zero-add}
 use lib.ListN.{length, take, drop, length-append}
@@ -15,12 +15,12 @@ use Rattle.payload.specs.Content.{Bytes}
 use Rattle.payload.specs.Payload.{encode, items}
 use Rattle.item.proofs.Sinking.{sets-append}
 use Rattle.batch.specs.declared.next.Batch.{Batch}
-use Rattle.batch.specs.Next.{left, NextIs}
+use Rattle.batch.specs.Next.{NextIs}
 use Rattle.judge.specs.declared.write.Write.{Write}
 use Rattle.judge.specs.Walk.{settled}
 use Rattle.batch.specs.Keep.{Told}
 use Rattle.batch.specs.Map.{Marked, Hinted}
-use Rattle.judge.specs.State.{offsets, ordered, Given, Charted, no, lastOf, Batched, leftOver, Written, Fitting, Ending, Writes, leftAll, RoomFor}
+use Rattle.judge.specs.State.{offsets, Given, Charted, no, Batched, leftOver, Written, Fitting, Ending, Writes, leftAll, RoomFor}
 use Rattle.judge.proofs.Leaving.{left-all}
 use Rattle.judge.proofs.Faulting.{given-told, next-batched, whole, next-all, next-on, next-less}
 pub use Rattle.judge.proofs.Faulting.{leftAt}

@@ -4,7 +4,6 @@ use mathlib.Core.Path.{_≡_, refl, sym, ap, _∙_}
 use mathlib.Core.List.{List, [], _∷_, map}
 use mathlib.Core.Option.{Option, none, some}
 use mathlib.Core.Bool.{Bool, true, false, not, cond}
-use native.Mathlib.Omega.{arith}
 use lib.ListN.{getD}
 use Rattle.order.specs.declared.Ordering.{Ordering}
 use Rattle.order.specs.declared.Ordering.the-variants.{Less, Equal, Greater}
@@ -19,7 +18,6 @@ use Rattle.change.specs.Application.{applyAt, apply, fits, fitsAt, Applies}
 use Rattle.change.proofs.Whole.{apply-sorted, apply-lookup, diff-sorted, applies, yields}
 use Rattle.number.specs.Bytes.{AllBytes}
 use Rattle.body.specs.declared.tag.Form.the-variants.{Snapshot}
-use Rattle.field.specs.Cells as run
 use Rattle.payload.specs.Content.{Bytes}
 use Rattle.payload.specs.Valid.{IsMap}
 use Rattle.payload.specs.Payload.{encode, items, changes}
@@ -27,7 +25,7 @@ use Rattle.payload.proofs.Closed.{apply-map}
 use Rattle.payload.proofs.Faithful.{faithful, entries-end}
 use Rattle.delta.specs.Answer.{differenceOf}
 use Rattle.delta.specs.Demand.{GoodSnapshot}
-use Rattle.delta.proofs.Differences.{good-map, difference-says}
+use Rattle.delta.proofs.Differences.{good-map, difference-says, empty-good}
 use Rattle.message.specs.declared.version.Version.{Version}
 use Rattle.message.specs.Version.{speaks}
 use Rattle.message.specs.Say.{kindIn, spoken}
@@ -173,10 +171,6 @@ onward-full v C t =
     (λ k. onward-lookup v [] C tt t k ∙ sym (spoken-lookup v k C))
 
 -- ---- the promise
-
-empty-good : GoodSnapshot []
-unfolding encode run.cellBytes
-empty-good = record { octets = λ i. omega arith; fine = faithful Snapshot .good-bytes [] (record { sorted = tt; valid = tt }) }
 
 pub promise : (v : Version) → Promise v
 promise v = record { outcome = out; delta-taken = onward; full-taken = full }

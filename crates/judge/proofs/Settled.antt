@@ -9,6 +9,7 @@ use Rattle.order.specs.declared.Ordering.{Ordering}
 use Rattle.order.specs.declared.Ordering.the-variants.{Less, Equal, Greater}
 use Rattle.order.specs.Comparison.{bytes}
 use Rattle.order.specs.Map.{own, lookup, Below, Sorted}
+use Rattle.order.proofs.Never.{never}
 use Rattle.order.proofs.Comparison.{strings, AtMost, at-most-self}
 use Rattle.order.proofs.Map.{ext, absent-at}
 use Rattle.change.specs.Change.{Change, announce, withdraw, update}
@@ -23,9 +24,10 @@ use Rattle.message.specs.Take.{all, misfit, asItem, take}
 use Rattle.message.proofs.Taking.{take-none, one-lookup, one-sorted}
 use Rattle.heard.specs.Place.{keyAt, sizeAt, toldAt, Payload, Messages, done, more}
 use Rattle.sorting.specs.Sorted.{insert, sorted}
+use Rattle.sorting.proofs.Sorting.{cons, insert-none}
 use Rattle.judge.specs.Walk.{follows, settle, settled}
 use Rattle.judge.specs.Promise.{later}
-use Rattle.judge.proofs.Sorting.{most-apart, turned, Side, side, front, behind, Past, past-all, Ascends, InOrder, insert-end, insert-front, insert-behind, messages-past, sorted-all, first-past, sorted-end, sorted-more, sorted-order, below, follows-same, follows-apart, under-apart}
+use Rattle.judge.proofs.Sorting.{most-apart, turned, Side, side, front, behind, Past, past-all, Ascends, InOrder, insert-front, insert-behind, messages-past, first-past, sorted-end, sorted-more, sorted-order, below, follows-same, follows-apart, under-apart}
 use Rattle.judge.proofs.Records.{wrong, after, after-map, take-right, take-wrong}
 
 abbrev Said : Type 0
@@ -72,7 +74,7 @@ module _ (s : Bytes) where
 
   pub settle-sorted : (last : ℕ) (ys : List ℕ) → 0 < last → Past 0 ys → Ascends s last ys → Sorted bytes (settle s last ys)
   settle-sorted last [] l p a = rw (settle-end last) (tt, tt)
-  settle-sorted last (y ∷ ys) l p a = go (follows s last y) refl (settle-sorted y ys (p .0) (p .1) (a .1))
+  settle-sorted last (y ∷ ys) l (cons q p) a = go (follows s last y) refl (settle-sorted y ys q p (a .1))
     where
       go : (b : Bool) → follows s last y ≡ b → Sorted bytes (settle s y ys) → Sorted bytes (settle s last (y ∷ ys))
       go true e i = rw (settle-same last y ys e) i
@@ -81,7 +83,7 @@ module _ (s : Bytes) where
 
   pub settled-sorted : (ys : List ℕ) → Past 0 ys → InOrder s ys → Sorted bytes (settled s ys)
   settled-sorted [] p a = rw settled-end tt
-  settled-sorted (y ∷ ys) p a = rw (settled-more y ys) (settle-sorted y ys (p .0) (p .1) a)
+  settled-sorted (y ∷ ys) (cons q p) a = rw (settled-more y ys) (settle-sorted y ys q p a)
 
   -- and has something to say of that record
   settle-says : (last : ℕ) (ys : List ℕ) (o : Said) → later (lookup bytes (keyAt s last) (settle s last ys)) o ≡ lookup bytes (keyAt s last) (settle s last ys)
@@ -123,12 +125,12 @@ module _ (s : Bytes) where
     settle-inserted : (last : ℕ) (ys : List ℕ) → 0 < last → bytes (keyAt s last) (keyAt s x) ≡ Less → Past x ys → Ascends s last ys →
         lookup bytes k (settle s last (insert s x ys)) ≡ later (lookup bytes k (settle s last ys)) (saysAt s k x none)
     settle-inserted last [] l u p a =
-        rw (insert-end s x, settle-other last x [] (under-apart s last x x (below l u) (at-most-self strings (keyAt s x))), settle-end last, settle-end x)
+        rw (insert-none s x, settle-other last x [] (under-apart s last x x (below l u) (at-most-self strings (keyAt s x))), settle-end last, settle-end x)
         (own-later (bytes k (keyAt s last)) (toldAt s last .change) none (saysAt s k x none))
-    settle-inserted last (y ∷ ys) l u p a = go (side (bytes (keyAt s x) (keyAt s y))) (λ v. settle-inserted y ys (omega (arith, p .0)) v (p .1) (a .1))
+    settle-inserted last (y ∷ ys) l u (cons q p) a = go (side (bytes (keyAt s x) (keyAt s y))) (λ v. settle-inserted y ys (omega (arith, q)) v p (a .1))
       where
         pos-y : 0 < y
-        pos-y = omega (arith, p .0)
+        pos-y = omega (arith, q)
 
         split : (b : Bool) → follows s last y ≡ b →
             lookup bytes k (settle s y (insert s x ys)) ≡ later (lookup bytes k (settle s y ys)) (saysAt s k x none) →
@@ -142,28 +144,28 @@ module _ (s : Bytes) where
             lookup bytes k (settle s last (insert s x (y ∷ ys))) ≡ later (lookup bytes k (settle s last (y ∷ ys))) (saysAt s k x none)
         go (front f) i =
             rw (
-              insert-front s x y ys (p .0) f,
+              insert-front s x y ys q f,
               settle-other last x (y ∷ ys) (under-apart s last x x (below l u) (at-most-self strings (keyAt s x))),
-              next-says y ys pos-y (past-all x ys (p .1)) (a .1) f,
+              next-says y ys pos-y (past-all x ys p) (a .1) f,
               settle-other last y ys (under-apart s last x y (below l u) f),
             ) (own-later (bytes k (keyAt s last)) (toldAt s last .change) (lookup bytes k (settle s y ys)) (saysAt s k x none))
         go (behind b) i = rw (insert-behind s x y ys b) (split (follows s last y) refl (i (turned (keyAt s x) (keyAt s y) b)))
 
     pub settled-inserted : (ys : List ℕ) → Past x ys → InOrder s ys →
         lookup bytes k (settled s (insert s x ys)) ≡ later (lookup bytes k (settled s ys)) (saysAt s k x none)
-    settled-inserted [] p a = rw (insert-end s x, settled-more x [], settle-end x, settled-end)
-    settled-inserted (y ∷ ys) p a = go (side (bytes (keyAt s x) (keyAt s y)))
+    settled-inserted [] p a = rw (insert-none s x, settled-more x [], settle-end x, settled-end)
+    settled-inserted (y ∷ ys) (cons q p) a = go (side (bytes (keyAt s x) (keyAt s y)))
       where
         go : Side (bytes (keyAt s x) (keyAt s y)) → lookup bytes k (settled s (insert s x (y ∷ ys))) ≡ later (lookup bytes k (settled s (y ∷ ys))) (saysAt s k x none)
-        go (front f) = rw (insert-front s x y ys (p .0) f, settled-more x (y ∷ ys), settled-more y ys)
-            (next-says y ys (omega (arith, p .0)) (past-all x ys (p .1)) a f)
+        go (front f) = rw (insert-front s x y ys q f, settled-more x (y ∷ ys), settled-more y ys)
+            (next-says y ys (omega (arith, q)) (past-all x ys p) a f)
         go (behind b) = rw (insert-behind s x y ys b, settled-more y (insert s x ys), settled-more y ys)
-            (settle-inserted y ys (omega (arith, p .0)) (turned (keyAt s x) (keyAt s y) b) (p .1) a)
+            (settle-inserted y ys (omega (arith, q)) (turned (keyAt s x) (keyAt s y) b) p a)
 
 -- ---- the whole
 
 pub misfit≢all : {X : Type 0} {t : Told} {B : change.Snapshot Bytes Bytes} → misfit t ≡ all B → X
-misfit≢all e = absurd (let z : _≡_ {A = ℕ} 0 1 = cc in omega arith)
+misfit≢all e = never cc
 
 -- a change, then another
 pub two-changes : (o : Option Bytes) (c d : Said) → applyAt (applyAt o c) d ≡ applyAt o (later d c)
@@ -177,7 +179,7 @@ two-changes o c (some d) = go d
 
 module _ (s : Bytes) where
   pub messages-settled : {at stop : ℕ} {xs : List ℕ} → 0 < at → Messages s at xs stop → Sorted bytes (settled s (sorted s xs))
-  messages-settled {xs = xs} l ms = settled-sorted s (sorted s xs) (sorted-all s (λ (y : ℕ). 0 < y) xs (messages-past s ms 0 l)) (sorted-order s ms)
+  messages-settled {xs = xs} l ms = settled-sorted s (sorted s xs) (messages-past s ms 0 l) (sorted-order s ms)
 
   -- the first message taken, then what the others leave
   first-settled : {at stop : ℕ} {xs : List ℕ} (A : change.Snapshot Bytes Bytes) → Sorted bytes A → 0 < at → (p : Payload s at) (ms : Messages s (at + sizeAt s at) xs stop) →

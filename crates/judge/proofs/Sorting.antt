@@ -1,5 +1,5 @@
 -- Offsets in message order: a message goes in front of the later ones of its record.
-use Prim.Native.Nat.{ℕ, _+_, _<_, _≤_}
+use Prim.Native.Nat.{ℕ, _+_, _<_}
 use mathlib.Core.Path.{_≡_, refl, ap, _∙_}
 use mathlib.Core.List.{List, [], _∷_}
 use mathlib.Core.Bool.{Bool, true, false, cond}
@@ -9,16 +9,15 @@ use borrow.Author.Tests.{lt-ltb, ne-eqb}
 use Rattle.order.specs.declared.Ordering.{Ordering}
 use Rattle.order.specs.declared.Ordering.the-variants.{Less, Equal, Greater}
 use Rattle.order.specs.Comparison.{bytes, flip}
-use Rattle.order.specs.Map.{All}
 use Rattle.order.proofs.Comparison.{strings, AtMost, less≢equal, less≢greater, equal≢greater}
 use Rattle.change.specs.Application.{isEqual}
 use Rattle.payload.specs.Content.{Bytes}
-use Rattle.heard.specs.Place.{keyAt, sizeAt, Sized, Payload, Messages, precedes, v4, v6, key, done, more}
+use Rattle.heard.specs.Place.{keyAt, sizeAt, Payload, Messages, precedes, done, more}
 use Rattle.sorting.specs.Sorted.{insert, sorted}
+use Rattle.sorting.proofs.Precede.{true≢false}
+use Rattle.sorting.proofs.Sorting.{All, cons, all-sorted, all-weak, insert-none}
+use Rattle.batch.proofs.Keeping.{size-some, messages-from}
 use Rattle.judge.specs.Walk.{follows}
-
-true≢false : {X : Type 0} {b : Bool} → b ≡ true → b ≡ false → X
-true≢false p q = absurd (let z : _≡_ {A = ℕ} 0 1 = cc in omega arith)
 
 -- ---- byte strings
 
@@ -73,8 +72,7 @@ abbrev pub Past : ℕ → List ℕ → Type 0
 Past x = All (λ (y : ℕ). x < y)
 
 pub past-all : (x : ℕ) (ys : List ℕ) → Past x ys → Past 0 ys
-past-all x [] p = tt
-past-all x (y ∷ ys) p = (omega (arith, p .0), past-all x ys (p .1))
+past-all x ys p = all-weak (λ y q. omega arith) p
 
 module _ (s : Bytes) where
   -- the records do not descend, from the one of `last` on
@@ -92,10 +90,6 @@ module _ (s : Bytes) where
 
   -- ---- insertion
 
-  pub insert-end : (x : ℕ) → insert s x [] ≡ x ∷ []
-  unfolding insert
-  insert-end x = refl
-
   pub insert-front : (x y : ℕ) (ys : List ℕ) → x < y → AtMost strings (keyAt s x) (keyAt s y) → insert s x (y ∷ ys) ≡ x ∷ y ∷ ys
   unfolding insert precedes
   insert-front x y ys l h = go (bytes (keyAt s x) (keyAt s y)) refl
@@ -109,61 +103,31 @@ module _ (s : Bytes) where
   unfolding insert precedes
   insert-behind x y ys e = rw e
 
-  pub insert-all : (P : ℕ → Type 0) (x : ℕ) (ys : List ℕ) → P x → All P ys → All P (insert s x ys)
-  unfolding insert
-  insert-all P x [] p h = (p, tt)
-  insert-all P x (y ∷ ys) p h = go (precedes s x y) (insert-all P x ys p (h .1))
-    where
-      go : (b : Bool) → All P (insert s x ys) → All P (cond b (x ∷ y ∷ ys) (y ∷ insert s x ys))
-      go true i = (p, h)
-      go false i = (h .0, i)
-
-  pub sorted-all : (P : ℕ → Type 0) (xs : List ℕ) → All P xs → All P (sorted s xs)
-  unfolding sorted
-  sorted-all P [] h = tt
-  sorted-all P (x ∷ xs) h = insert-all P x (sorted s xs) (h .0) (sorted-all P xs (h .1))
-
   ascends-insert : (last x : ℕ) (ys : List ℕ) → AtMost strings (keyAt s last) (keyAt s x) → Ascends last ys → Past x ys → Ascends last (insert s x ys)
-  ascends-insert last x [] h a p = rw (insert-end x) (h, tt)
-  ascends-insert last x (y ∷ ys) h a p = go (side (bytes (keyAt s x) (keyAt s y))) (λ b. ascends-insert y x ys b (a .1) (p .1))
+  ascends-insert last x [] h a p = rw (insert-none s x) (h, tt)
+  ascends-insert last x (y ∷ ys) h a (cons l p) = go (side (bytes (keyAt s x) (keyAt s y))) (λ b. ascends-insert y x ys b (a .1) p)
     where
       go : Side (bytes (keyAt s x) (keyAt s y)) → (AtMost strings (keyAt s y) (keyAt s x) → Ascends y (insert s x ys)) → Ascends last (insert s x (y ∷ ys))
-      go (front f) i = rw (insert-front x y ys (p .0) f) (h, (f, a .1))
+      go (front f) i = rw (insert-front x y ys l f) (h, (f, a .1))
       go (behind b) i = rw (insert-behind x y ys b) (a .0, i (less-at-most (keyAt s y) (keyAt s x) (turned (keyAt s x) (keyAt s y) b)))
 
   pub order-insert : (x : ℕ) (ys : List ℕ) → InOrder ys → Past x ys → InOrder (insert s x ys)
-  order-insert x [] a p = rw (insert-end x) tt
-  order-insert x (y ∷ ys) a p = go (side (bytes (keyAt s x) (keyAt s y)))
+  order-insert x [] a p = rw (insert-none s x) tt
+  order-insert x (y ∷ ys) a (cons l p) = go (side (bytes (keyAt s x) (keyAt s y)))
     where
       go : Side (bytes (keyAt s x) (keyAt s y)) → InOrder (insert s x (y ∷ ys))
-      go (front f) = rw (insert-front x y ys (p .0) f) (f, a)
-      go (behind b) = rw (insert-behind x y ys b) (ascends-insert y x ys (less-at-most (keyAt s y) (keyAt s x) (turned (keyAt s x) (keyAt s y) b)) a (p .1))
+      go (front f) = rw (insert-front x y ys l f) (f, a)
+      go (behind b) = rw (insert-behind x y ys b) (ascends-insert y x ys (less-at-most (keyAt s y) (keyAt s x) (turned (keyAt s x) (keyAt s y) b)) a p)
 
   -- ---- the messages of an answer
 
-  pub some-size : {at : ℕ} → Sized s at → 0 < sizeAt s at
-  some-size (v4 t n) = omega (arith, n)
-  some-size (v6 t n) = omega (arith, n)
-  some-size (key t n m) = omega (arith, n)
+  -- past z, if the first is, also when they are in order
+  pub messages-past : {at stop : ℕ} {xs : List ℕ} → Messages s at xs stop → (z : ℕ) → z < at → Past z (sorted s xs)
+  messages-past m z l = all-sorted s (all-weak (λ y q. omega arith) (messages-from m))
 
-  pub messages-past : {at stop : ℕ} {xs : List ℕ} → Messages s at xs stop → (z : ℕ) → z < at → Past z xs
-  messages-past done z l = tt
-  messages-past (more {at = at} p m) z l = (l, messages-past m z (omega arith))
-
-  pub messages-stop : {at stop : ℕ} {xs : List ℕ} → Messages s at xs stop → at ≤ stop
-  messages-stop done = omega arith
-  messages-stop (more {at = at} p m) = omega (arith, messages-stop m)
-
-  -- they stand at no other offsets
-  pub messages-one : {at stop : ℕ} {xs ys : List ℕ} → Messages s at xs stop → Messages s at ys stop → xs ≡ ys
-  messages-one done done = refl
-  messages-one done (more p m) = absurd (omega (arith, some-size (p .sized), messages-stop m))
-  messages-one (more p m) done = absurd (omega (arith, some-size (p .sized), messages-stop m))
-  messages-one (more {at = at} p m) (more q n) = ap (λ (l : List ℕ). at ∷ l) (messages-one m n)
-
-  -- the first stands before the others, also when these are in order
+  -- the first stands before the others
   pub first-past : {at stop : ℕ} {xs : List ℕ} → Payload s at → Messages s (at + sizeAt s at) xs stop → Past at (sorted s xs)
-  first-past {at} {stop} {xs} p m = sorted-all (λ (y : ℕ). at < y) xs (messages-past m at (omega (arith, some-size (p .sized))))
+  first-past {at} p m = messages-past m at (omega (arith, size-some s at p))
 
   pub sorted-end : sorted s [] ≡ []
   unfolding sorted

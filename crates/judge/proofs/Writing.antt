@@ -3,19 +3,17 @@ use Prim.Native.Nat.{ℕ, zero, suc, _+_, _-_, _^_, _<_, _≤_}
 use mathlib.Core.Path.{_≡_, refl, sym, ap, ap₂, subst, _∙_}
 use mathlib.Core.List.{List, [], _∷_, _++_, append-nil, append-assoc}
 use mathlib.Core.Bool.{Bool, true, false, not, cond}
-use mathlib.Core.Option.{Option, none, some}
+use mathlib.Core.Option.{none, some}
 use native.Mathlib.Omega.{arith}
-use native.Mathlib.Nat.{zero-add}
 use borrow.Author.Tests.{eq-eqb, ne-eqb, not-true, not-false}
 use mir.Syntax.{w8, w64}
 use mir.Val.{Fits}
-use lib.Dec.{eqb}
 use lib.ListN.{length, getD, take, drop, length-append, length-take, length-drop, drop-of-length-le}
-use lib.Seq.{sets, length-sets, take-at, take-all}
-use Rattle.order.specs.declared.Ordering.the-variants.{Less, Equal, Greater}
+use lib.Seq.{sets, length-sets, take-all}
+use Rattle.order.specs.declared.Ordering.the-variants.{Less, Equal}
 use Rattle.order.specs.Comparison.{bytes}
 use Rattle.order.specs.Map.{Item, All, Below}
-use Rattle.order.specs.Walk.{emit, walk}
+use Rattle.order.specs.Walk.{emit}
 use Rattle.order.proofs.Comparison.{strings}
 use Rattle.order.proofs.Walk.{walk-equal}
 use Rattle.change.specs.Change.{Change, announce, withdraw}
@@ -26,9 +24,8 @@ use Rattle.number.specs.Bytes.{part}
 use Rattle.body.specs.declared.tag.Form.the-variants.{Snapshot}
 use Rattle.field.specs.Cells.{field}
 use Rattle.field.specs.Cells as run
-use Rattle.payload.specs.Content.{Bytes, cellFor}
+use Rattle.payload.specs.Content.{Bytes}
 use Rattle.payload.specs.Payload.{encode, items}
-use Rattle.item.specs.declared.place.Part.{Part}
 use Rattle.item.specs.declared.reading.Reading.the-variants.{Announced}
 use Rattle.item.specs.Place.{partIn, Lies}
 use Rattle.item.specs.Reading.{Ready}
@@ -44,7 +41,7 @@ use Rattle.judge.specs.State.{Last, no, one, Next, Chain, end, on, lastO
 use Rattle.judge.proofs.Settled.{settle-end, settle-same, settle-other, settled-end, settled-more}
 use Rattle.judge.proofs.Sorting.{follows-same}
 use Rattle.judge.proofs.Finding.{encode-append, bytes-from}
-use Rattle.judge.proofs.Checking.{follows-key, last-payload, next-of}
+use Rattle.judge.proofs.Checking.{follows-key, last-payload, chain-next, chain-rest, next-of}
 
 abbrev S : Type 0
 S = change.Snapshot Bytes Bytes
@@ -283,12 +280,6 @@ module _ (a s : Bytes) (w : Write) (x : ℕ) (h : Written a s w) where
 pub ruleset writes-one = (written-last, written-ready, write-follows, write-settles, write-add, write-lies, write-found)
 
 -- ---- write_batch
-
-chain-next : (s : Bytes) (last x : ℕ) (xs : List ℕ) → Chain s last (x ∷ xs) → Next s last x
-chain-next s last x xs (on n c) = n
-
-chain-rest : (s : Bytes) (last x : ℕ) (xs : List ℕ) → Chain s last (x ∷ xs) → Chain s x xs
-chain-rest s last x xs (on n c) = c
 
 pub record Writing (a s : Bytes) (buf : List ℕ) (n : ℕ) (o₀ : Bytes) (w₀ : Write) (o : Bytes) (w : Write) (i : ℕ) : Type 0 where
   pub written : Written a s w

@@ -1,19 +1,19 @@
 -- Laws of the two entries.
-use Prim.Native.Nat.{ℕ, _+_, _≤_}
+use Prim.Native.Nat.{ℕ, _≤_}
 use mathlib.Core.Path.{_≡_, refl, sym, ap, _∙_}
-use mathlib.Core.List.{[], _++_}
+use mathlib.Core.List.{[]}
 use mathlib.Core.Bool.{Bool, true, false}
 use native.Mathlib.Omega.{arith}
-use mir.Syntax.{w8}
-use mir.Val.{Fits}
 use borrow.Author.Tests.{leb-true, le-leb}
 use lib.Dec.{leb, eqb}
-use lib.ListN.{length, getD, take, drop, length-append}
+use lib.ListN.{length, take, drop, length-append}
 use lib.Seq.{take-length, take-append-seam}
 use Rattle.order.specs.Comparison.{bytes}
+use Rattle.order.proofs.Never.{never}
 use Rattle.change.proofs.Whole.{merge-earlier}
 use Rattle.serial.specs.declared.Serial.{Serial}
 use Rattle.serial.specs.Serial.{zeroSerial}
+use Rattle.number.proofs.Eights.{Octets}
 use Rattle.body.specs.declared.tag.Form.the-variants.{Snapshot, Delta}
 use Rattle.field.specs.declared.verdict.Verdict.the-variants.{Fine}
 use Rattle.field.specs.Head.{front}
@@ -48,10 +48,6 @@ use Rattle.listing.specs.Listing.{listingOf}
 use Rattle.listing.specs.Report.{writtenOf, listedOf}
 use Rattle.listing.specs.Told.{lenOf, Told}
 use Rattle.listing.specs.Answer.{listOf, listOut, reportAt, reportOf, textOf, deltaAfter, diffOf, diffOut}
-
--- each element is a byte, as a lent slice has it
-abbrev Octets : Bytes → Type 0
-Octets s = (i : ℕ) → Fits w8 (getD s i 0)
 
 -- ---- counts_of
 
@@ -173,16 +169,13 @@ pub record Made (old new : Bytes) (room : ℕ) (c : Counts) : Type 0 where
   pub counts : c ≡ countsOf (differenceOf old new)
   pub fits : length (differenceOf old new) ≤ room
 
-clash : {X : Type 0} → _≡_ {A = ℕ} 0 1 → X
-clash z = absurd (omega arith)
-
 module _ (old new : Bytes) (room : ℕ) where
   made-at : (x : Admitted) → admitOf Snapshot old Snapshot new ≡ x → (t w : Bool) → eqb (length (differenceOf old new)) 0 ≡ t →
       leb (length (differenceOf old new)) room ≡ w → (s : Serial) (c : Counts) →
       constructAt x (differenceOf old new) zeroSerial room ≡ constructed.Delta s c → Made old new room c
-  made-at (No r) a t w p l s c e = clash (cc)
-  made-at Yes a true w p l s c e = let q = rw p at e in clash (cc)
-  made-at Yes a false false p l s c e = let q = rw (p, l) at e in clash (cc)
+  made-at (No r) a t w p l s c e = never cc
+  made-at Yes a true w p l s c e = let q = rw p at e in never cc
+  made-at Yes a false false p l s c e = let q = rw (p, l) at e in never cc
   made-at Yes a false true p l s c e =
       let q = rw (p, l) at e in
       record { admitted = a; counts = cc; fits = leb-true (length (differenceOf old new)) room l }

@@ -1,7 +1,7 @@
 -- Worked examples, by computation.
 use Prim.Native.Nat.{ℕ}
 use mathlib.Core.Path.{_≡_, refl}
-use mathlib.Core.List.{List, [], _∷_, _++_}
+use mathlib.Core.List.{[], _∷_, _++_}
 use lib.ListN.{replicate}
 use Rattle.order.specs.Map.{Item}
 use Rattle.order.specs.Walk.{walk}
@@ -14,11 +14,11 @@ use Rattle.body.specs.Origin.{clean, goodPrefix, goodOrigin}
 use Rattle.body.specs.RouterKey.{goodRouterKey}
 use Rattle.payload.specs.Content.{Bytes}
 use Rattle.message.specs.declared.version.Version.the-variants.{Rfc6810, Rfc8210}
-use Rattle.message.specs.Message.{Message, serialNotify, serialQuery, cacheResponse, ipv4Prefix, ipv6Prefix, endOfData, cacheReset, routerKey, errorReport, pdu, pdus}
+use Rattle.message.specs.Message.{serialNotify, serialQuery, cacheResponse, ipv4Prefix, endOfData, cacheReset, errorReport, pdu, pdus}
 use Rattle.message.specs.Record.{messageOf, partOf}
 use Rattle.message.specs.Say.{spoken, ofKind, skipped, said, answer}
-use Rattle.message.specs.Read.{messageIn, Front, unread, read, front}
-use Rattle.message.specs.Hear.{Told, Heard, faulty, ended, hearF, hear}
+use Rattle.message.specs.Read.{messageIn, front}
+use Rattle.message.specs.Hear.{Told, faulty, ended, hearF, hear}
 use Rattle.message.specs.Take.{all, misfit, take}
 
 -- 192.0.2.0/24-26 of AS 64496, 2001:db8::/32-48 of AS 64497, a router key without key info, an ASPA

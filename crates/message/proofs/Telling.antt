@@ -7,6 +7,7 @@ use native.Mathlib.Omega.{arith}
 use lib.Dec.{eqb}
 use lib.ListN.{length, getD}
 use Rattle.order.specs.Map.{All}
+use Rattle.order.proofs.Never.{never}
 use Rattle.change.specs.Change.{Change, announce, withdraw}
 use Rattle.body.specs.declared.tag.Form.the-variants.{Delta}
 use Rattle.body.specs.Tag.{tagOf, goodBody}
@@ -56,8 +57,8 @@ tells-valid t h = rw (h .is) (go (h .flag))
 pub tells-map : (t : Told) → Tells t → IsMap Delta (asItem t ∷ [])
 tells-map t h = record { sorted = (tt, tt); valid = (tells-valid t h, tt) }
 
-not-payload : {X : Type 0} {k : Bytes} {c : Change Bytes} → misplaced ≡ payload k c → X
-not-payload e = absurd (let z : _≡_ {A = ℕ} 0 1 = cc in omega arith)
+pub not-payload : {X : Type 0} {k : Bytes} {c : Change Bytes} → misplaced ≡ payload k c → X
+not-payload e = never cc
 
 module _ (at : ℕ) (k : Bytes) (c : Change Bytes) where
   abbrev told : Told
@@ -83,10 +84,10 @@ module _ (at : ℕ) (k : Bytes) (c : Change Bytes) where
   unfolding partOf
   part-tells (serialNotify session serial) e = not-payload e
   part-tells (serialQuery session serial) e = not-payload e
-  part-tells (cacheResponse session) e = absurd (let z : _≡_ {A = ℕ} 0 1 = cc in omega arith)
+  part-tells (cacheResponse session) e = never cc
   part-tells (ipv4Prefix flags p m address asn) e = payload-tells flags _ (anOrigin _) e
   part-tells (ipv6Prefix flags p m address asn) e = payload-tells flags _ (anOrigin _) e
-  part-tells (endOfData session serial times) e = absurd (let z : _≡_ {A = ℕ} 0 1 = cc in omega arith)
+  part-tells (endOfData session serial times) e = never cc
   part-tells cacheReset e = not-payload e
   part-tells (routerKeyMessage flags identifier asn info) e = payload-tells flags _ (aRouterKey _) e
   part-tells (errorReport code enclosed text) e = not-payload e

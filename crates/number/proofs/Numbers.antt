@@ -51,14 +51,27 @@ module _ (s : List ℕ) (o : (i : ℕ) → Fits w8 (getD s i 0)) where
   pub bytes-of-four : (i : ℕ) → i + 4 ≤ length s → fourBytes (fourAt s i) ≡ take 4 (drop i s)
   bytes-of-four i h = four-back (getD s i 0) (getD s (i + 1) 0) (getD s (i + 2) 0) (getD s (i + 3) 0) (o i .fits) (o (i + 1) .fits) (o (i + 2) .fits) (o (i + 3) .fits) ∙ sym (four-taken i h)
 
-  four-lt : (i : ℕ) → fourAt s i < 4_294_967_296
+  pub four-lt : (i : ℕ) → fourAt s i < 4_294_967_296
   four-lt i = omega (arith, o i .fits, o (i + 1) .fits, o (i + 2) .fits, o (i + 3) .fits)
 
+  -- the halves of a word
+  pub high-half : (i : ℕ) → wordAt s i / 4_294_967_296 ≡ fourAt s i
+  unfolding wordAt
+  high-half i = plain (fourAt s i) (fourAt s (i + 4)) (four-lt (i + 4))
+    where
+      plain : (x y : ℕ) → y < 4_294_967_296 → (x * 4_294_967_296 + y) / 4_294_967_296 ≡ x
+      plain x y h = omega arith
+
+  pub low-half : (i : ℕ) → wordAt s i % 4_294_967_296 ≡ fourAt s (i + 4)
+  unfolding wordAt
+  low-half i = plain (fourAt s i) (fourAt s (i + 4)) (four-lt (i + 4))
+    where
+      plain : (x y : ℕ) → y < 4_294_967_296 → (x * 4_294_967_296 + y) % 4_294_967_296 ≡ y
+      plain x y h = omega arith
+
   pub bytes-of-word : (i : ℕ) → i + 8 ≤ length s → wordBytes (wordAt s i) ≡ take 8 (drop i s)
-  unfolding wordAt wordBytes
+  unfolding wordBytes
   bytes-of-word i h =
-      let p : (fourAt s i * 4_294_967_296 + fourAt s (i + 4)) / 4_294_967_296 ≡ fourAt s i = omega (arith, four-lt (i + 4)) in
-      let q : (fourAt s i * 4_294_967_296 + fourAt s (i + 4)) % 4_294_967_296 ≡ fourAt s (i + 4) = omega (arith, four-lt (i + 4)) in
-      ap₂ (λ (x y : ℕ). fourBytes x ++ fourBytes y) p q
+      ap₂ (λ (x y : ℕ). fourBytes x ++ fourBytes y) (high-half i) (low-half i)
       ∙ ap₂ (λ (x y : List ℕ). x ++ y) (bytes-of-four i (omega arith)) (bytes-of-four (i + 4) (omega arith))
       ∙ rw (take-add 4 4 (drop i s), drop-drop 4 i s)

@@ -9,16 +9,17 @@ use borrow.Author.Tests.{ltb-true, ltb-false, lt-ltb, le-ltb}
 use Rattle.order.specs.declared.Ordering.{Ordering}
 use Rattle.order.specs.declared.Ordering.the-variants.{Less, Equal, Greater}
 use Rattle.order.specs.Comparison.{flip, orElse, number, lex, bytes, TotalOrder}
+use Rattle.order.proofs.Never.{never}
 
 -- two answers that differ: from them anything follows (where the goal is an equation `cc` finds it alone)
 pub less≢equal : {X : Type 0} {o : Ordering} → o ≡ Less → o ≡ Equal → X
-less≢equal p q = absurd (let z : _≡_ {A = ℕ} 0 1 = cc in omega arith)
+less≢equal p q = never cc
 
 pub less≢greater : {X : Type 0} {o : Ordering} → o ≡ Less → o ≡ Greater → X
-less≢greater p q = absurd (let z : _≡_ {A = ℕ} 0 1 = cc in omega arith)
+less≢greater p q = never cc
 
 pub equal≢greater : {X : Type 0} {o : Ordering} → o ≡ Equal → o ≡ Greater → X
-equal≢greater p q = absurd (let z : _≡_ {A = ℕ} 0 1 = cc in omega arith)
+equal≢greater p q = never cc
 
 -- the three answers of two numbers, by the order that omega knows
 module _ (m n : ℕ) where

@@ -1,3 +1,4 @@
+pub mod Never
 pub mod Comparison
 pub mod Scan
 pub mod Map

@@ -1,17 +1,21 @@
 -- Laws of ascending lists: a key below one is not in it, and equal lookups make equal lists.
 use mathlib.Core.Path.{_≡_, refl, ap, _∙_}
-use mathlib.Core.List.{List, [], _∷_}
+use mathlib.Core.List.{List, [], _∷_, _++_}
 use mathlib.Core.Option.{Option, none, some}
-use Prim.Native.Nat.{ℕ}
-use native.Mathlib.Omega.{arith}
 use Rattle.order.specs.declared.Ordering.{Ordering}
 use Rattle.order.specs.declared.Ordering.the-variants.{Less, Equal, Greater}
 use Rattle.order.specs.Comparison.{flip, TotalOrder}
-use Rattle.order.specs.Map.{Item, own, lookup, Below, Sorted}
+use Rattle.order.specs.Map.{Item, All, own, lookup, Below, Sorted}
+use Rattle.order.proofs.Never.{never}
 
 -- nothing is not something
 pub none≢some : {X A : Type 0} {o : Option A} {v : A} → o ≡ none → o ≡ some v → X
-none≢some p q = absurd (let z : _≡_ {A = ℕ} 0 1 = cc in omega arith)
+none≢some p q = never cc
+
+-- what holds for each of two lists holds for each of both together
+pub all-append : {A : Type 0} (P : A → Type 0) (a b : List A) → All P a → All P b → All P (a ++ b)
+all-append P [] b x y = y
+all-append P (z ∷ a) b x y = (x .0, all-append P a b (x .1) y)
 
 module _ {K A : Type 0} {cmp : K → K → Ordering} (O : TotalOrder cmp) where
   pub below-trans : (k l : K) (a : List (Item K A)) → cmp k l ≡ Less → Below cmp l a → Below cmp k a

@@ -8,6 +8,7 @@ use native.Mathlib.Omega.{arith}
 use lib.Dec.{leb}
 use lib.ListN.{length}
 use borrow.Author.Tests.{leb-true, leb-false, le-leb, lt-leb}
+use Rattle.order.proofs.Never.{never}
 use Rattle.order.proofs.Map.{none≢some}
 use Rattle.serial.specs.declared.Serial.{Serial}
 use Rattle.body.specs.declared.tag.Form.the-variants.{Snapshot, Delta}
@@ -84,7 +85,7 @@ module _ (session keep : ℕ) (start : Serial) (snapshots deltas : Bytes) where
       go false e = refl
 
   no-keep : goodKeep keep ≡ false → ¬ ((1 ≤ keep) × (keep ≤ 64))
-  no-keep e k = let p : goodKeep keep ≡ true = keep-good .1 k in let z : _≡_ {A = ℕ} 0 1 = cc in omega arith
+  no-keep e k = let p : goodKeep keep ≡ true = keep-good .1 k in never cc
 
   pub creates : Creates session keep start snapshots deltas
   unfolding createOf

@@ -10,12 +10,13 @@ use lib.Seq.{drop-nil, take-append-seam}
 use borrow.Author.Tests.{le-leb, eq-eqb, eqb-true}
 use Rattle.order.specs.Comparison.{bytes}
 use Rattle.order.specs.Map.{All}
+use Rattle.order.proofs.Never.{never}
 use Rattle.change.specs.Difference.{diff}
 use Rattle.change.specs.History.{lastN, newest}
 use Rattle.change.specs.Held.{diffs, held}
 use Rattle.change.specs.Grouping.{steps}
 use Rattle.change.proofs.Chain.{all-newest}
-use Rattle.change.proofs.History.{diffs-length, held-push}
+use Rattle.change.proofs.History.{diffs-length, held-push, lastN-push}
 use Rattle.serial.specs.declared.Serial.{Serial}
 use Rattle.number.specs.Bytes.{AllBytes}
 use Rattle.body.specs.declared.tag.Form.the-variants.{Snapshot, Delta}
@@ -32,7 +33,7 @@ use Rattle.past.specs.WellFormed.{isGood, every, goodKeep, goodSerial, g
 use Rattle.past.specs.Update.{Step, refuse, first, unchanged, add, deltasWith, nextState, stepFor, updateAt, updateOf, snapshotsAt, updateSnapshots, deltasAt, updateDeltas}
 use Rattle.past.specs.Run.{World, Call, update, query, full, notify, ready, stepOf, givenBy, givenAfter}
 use Rattle.past.specs.Promise.{OfBytes}
-use Rattle.past.proofs.Lists.{lastN-length, lastN-push, steps-push, pushed-last, newest-push, all-push, all-pushed, map-push, map-pushed, map-newest}
+use Rattle.past.proofs.Lists.{lastN-length, steps-push, pushed-last, newest-push, all-push, all-pushed, map-push, map-pushed, map-newest}
 use Rattle.past.proofs.Store.{joined-length, store-length, next-lengths, next-deltas}
 use Rattle.delta.specs.Demand.{GoodSnapshot}
 use Rattle.delta.proofs.Differences.{difference-fine, difference-says}
@@ -163,7 +164,7 @@ inv-formed session keep start w (S ∷ Ts) i = holds-formed i
 -- ---- every call keeps it
 
 never-both : {b : Bool} → b ≡ false → b ≡ true → ⊥
-never-both p q = let z : _≡_ {A = ℕ} 0 1 = cc in omega arith
+never-both p q = never cc
 
 module _ (session keep : ℕ) (start : Serial) (w : World) (new : Bytes) (octets : AllBytes new) where
   -- what a step leaves

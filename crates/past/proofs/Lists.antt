@@ -1,12 +1,11 @@
 -- Laws of lists: what is mapped, taken from the end and added behind.
-use Prim.Native.Nat.{ℕ, zero, suc, _+_, _-_, _≤_, min}
+use Prim.Native.Nat.{ℕ, zero, suc, _-_, _≤_, min}
 use mathlib.Core.Path.{_≡_, refl, sym, ap, _∙_}
 use mathlib.Core.List.{List, [], _∷_, _++_, map}
 use mathlib.Core.Bool.{Bool, true, false, cond}
 use native.Mathlib.Omega.{arith}
 use lib.Dec.{eqb}
-use lib.ListN.{length, drop, length-append, length-drop, length-map}
-use lib.Seq.{drop-drop, drop-append-le}
+use lib.ListN.{length, drop, length-drop, length-map}
 use borrow.Author.Tests.{eqb-true, eqb-false}
 use Rattle.order.specs.Map.{All}
 use Rattle.change.specs.History.{lastN, newest}
@@ -18,17 +17,6 @@ use Rattle.past.specs.Update.{pushed}
 module _ {A : Type 0} where
   pub lastN-length : (n : ℕ) (l : List A) → length (lastN n l) ≡ min n (length l)
   lastN-length n l = length-drop (length l - n) l ∙ omega arith
-
-  lastN-drop : (n i : ℕ) (l : List A) → i ≤ length l - n → lastN n (drop i l) ≡ lastN n l
-  lastN-drop n i l h =
-      let e : i + ((length l - i) - n) ≡ length l - n = omega arith in
-      simp (drop-drop, length-drop, e)
-
-  -- what is no longer among the last does not come back
-  pub lastN-push : (n : ℕ) (l : List A) (x : A) → lastN n (lastN n l ++ (x ∷ [])) ≡ lastN n (l ++ (x ∷ []))
-  lastN-push n l x =
-      rw (← drop-append-le (length l - n) l (x ∷ []) (omega arith))
-      (lastN-drop n (length l - n) (l ++ (x ∷ [])) (omega (arith, length-append l (x ∷ []))))
 
   -- a delta pushed is one of the last
   pub pushed-last : (n keep : ℕ) (l : List A) (x : A) → 1 ≤ keep → n ≡ length l → n ≤ keep → pushed n keep l x ≡ lastN keep (l ++ (x ∷ []))

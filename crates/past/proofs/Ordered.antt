@@ -7,6 +7,7 @@ use mathlib.Core.Logic.{_⊎_, inl, inr}
 use native.Mathlib.Omega.{arith}
 use lib.Dec.{eqb}
 use borrow.Author.Tests.{eqb-true, eqb-false}
+use Rattle.order.proofs.Never.{never}
 use Rattle.serial.specs.declared.Serial.{Serial}
 use Rattle.serial.specs.declared.order.Standing.the-variants.{Equal, Before, Unordered}
 use Rattle.serial.specs.Serial.{distanceOf}
@@ -39,5 +40,5 @@ pub rule-unordered : (keep : ℕ) (start : Serial) (given : List Bytes) (asked :
 rule-unordered keep start given asked least most k l u r = go (rule-before keep start given asked least most k l r)
   where
     go : (standing asked (serialIn start given) ≡ Equal) ⊎ (standing asked (serialIn start given) ≡ Before) → ⊥
-    go (inl e) = let z : _≡_ {A = ℕ} 0 1 = cc in omega arith
-    go (inr e) = let z : _≡_ {A = ℕ} 0 1 = cc in omega arith
+    go (inl e) = never cc
+    go (inr e) = never cc

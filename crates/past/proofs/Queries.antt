@@ -3,11 +3,11 @@ use Prim.Native.Nat.{ℕ, _≤_}
 use mathlib.Core.Path.{_≡_, refl, sym, _∙_}
 use mathlib.Core.Bool.{Bool, true, false, cond}
 use mathlib.Core.Logic.{_↔_}
-use native.Mathlib.Omega.{arith}
 use lib.Dec.{leb}
 use lib.ListN.{length, take, drop}
 use lib.Seq.{take-append-seam}
 use borrow.Author.Tests.{leb-true, le-leb}
+use Rattle.order.proofs.Never.{never}
 use Rattle.serial.specs.declared.Serial.{Serial}
 use Rattle.serial.specs.declared.Session.{Session}
 use Rattle.serial.specs.Serial.{distanceOf}
@@ -35,43 +35,41 @@ answerBy true true true false c = Refused NoRoom
 answerBy true true true true c = Served c
 
 -- two answers that differ: from them anything follows
-never : {X : Type 0} → _≡_ {A = ℕ} 0 1 → X
-never z = absurd (omega arith)
 
 module _ (c : Counts) where
   seven-by : (t u v f : Bool) → answerBy t u v f c ≡ Refused IllFormed → t ≡ false
   seven-by false u v f e = refl
-  seven-by true false v f e = never (cc)
-  seven-by true true false f e = never (cc)
-  seven-by true true true false e = never (cc)
-  seven-by true true true true e = never (cc)
+  seven-by true false v f e = never cc
+  seven-by true true false f e = never cc
+  seven-by true true true false e = never cc
+  seven-by true true true true e = never cc
 
   five-by : (t u v f : Bool) → answerBy t u v f c ≡ Refused OtherSession → (t ≡ true) × (u ≡ false)
-  five-by false u v f e = never (cc)
+  five-by false u v f e = never cc
   five-by true false v f e = (refl, refl)
-  five-by true true false f e = never (cc)
-  five-by true true true false e = never (cc)
-  five-by true true true true e = never (cc)
+  five-by true true false f e = never cc
+  five-by true true true false e = never cc
+  five-by true true true true e = never cc
 
   six-by : (t u v f : Bool) → answerBy t u v f c ≡ Refused NotServed → (t ≡ true) × (u ≡ true) × (v ≡ false)
-  six-by false u v f e = never (cc)
-  six-by true false v f e = never (cc)
+  six-by false u v f e = never cc
+  six-by true false v f e = never cc
   six-by true true false f e = (refl, refl, refl)
-  six-by true true true false e = never (cc)
-  six-by true true true true e = never (cc)
+  six-by true true true false e = never cc
+  six-by true true true true e = never cc
 
   four-by : (t u v f : Bool) → answerBy t u v f c ≡ Refused NoRoom → (t ≡ true) × (u ≡ true) × (v ≡ true) × (f ≡ false)
-  four-by false u v f e = never (cc)
-  four-by true false v f e = never (cc)
-  four-by true true false f e = never (cc)
+  four-by false u v f e = never cc
+  four-by true false v f e = never cc
+  four-by true true false f e = never cc
   four-by true true true false e = (refl, refl, refl, refl)
-  four-by true true true true e = never (cc)
+  four-by true true true true e = never cc
 
   served-by : (t u v f : Bool) (d : Counts) → answerBy t u v f c ≡ Served d → (t ≡ true) × (u ≡ true) × (v ≡ true) × (f ≡ true) × (d ≡ c)
-  served-by false u v f d e = never (cc)
-  served-by true false v f d e = never (cc)
-  served-by true true false f d e = never (cc)
-  served-by true true true false d e = never (cc)
+  served-by false u v f d e = never cc
+  served-by true false v f d e = never cc
+  served-by true true false f d e = never cc
+  served-by true true true false d e = never cc
   served-by true true true true d e = (refl, refl, refl, refl, cc)
 
 -- the three tests before that of the room
@@ -85,7 +83,7 @@ out-by false u v f c d out i r e = refl
 out-by true false v f c d out i r e = refl
 out-by true true false f c d out i r e = refl
 out-by true true true false c d out i r e = rw i
-out-by true true true true c d out i r e = never (cc)
+out-by true true true true c d out i r e = never cc
 
 module _ (h : History) (session : Session) (asked : Serial) (snapshots deltas : Bytes) where
   abbrev formed : Bool

@@ -1,5 +1,5 @@
 -- Demand 3 over runs of calls from a fresh history.
-use Prim.Native.Nat.{ℕ, _-_, _%_, _^_, _≤_, _<_, min}
+use Prim.Native.Nat.{ℕ, _-_, _^_, _≤_, _<_, min}
 use mathlib.Core.Path.{_≡_, refl, sym, ap, _∙_}
 use mathlib.Core.List.{List, [], _∷_, map}
 use mathlib.Core.Option.{some}
@@ -12,6 +12,7 @@ use lib.Seq.{drop-nil}
 use borrow.Author.Tests.{leb-true, leb-false, lt-leb, eqb-true, eqb-false, eq-eqb, ne-eqb}
 use Rattle.order.specs.Comparison.{bytes}
 use Rattle.order.specs.Map.{All, Sorted}
+use Rattle.order.proofs.Never.{never}
 use Rattle.order.proofs.Comparison.{strings}
 use Rattle.order.proofs.Map.{none≢some}
 use Rattle.change.specs.Difference.{diff}
@@ -182,7 +183,7 @@ start-inv session keep start snapshots deltas bound = go (goodKeep keep) refl (l
     admitted t u v = andThen (cond t Yes (No BadKeep)) (andThen (cond u Yes (No (TooLong 1))) (cond v Yes (No (TooLong 2))))
 
     refusal : {X : Type 0} {r : Refusal} → Refused r ≡ Done → X
-    refusal e = absurd (let z : _≡_ {A = ℕ} 0 1 = cc in omega arith)
+    refusal e = never cc
 
     go : (t : Bool) → goodKeep keep ≡ t → (u : Bool) → leb (length snapshots) (limit Snapshot) ≡ u → (v : Bool) → leb (length deltas) (limit Delta) ≡ v →
         createAt (admitted t u v) session keep start .answer ≡ Done →
@@ -366,8 +367,8 @@ module _ (session keep : ℕ) (start : Serial) (w : World) where
 
   inv-mark : (given : List Bytes) → Inv session keep start w given → replyOf w ready ≡ isReady true ↔ ¬ (given ≡ [])
   unfolding readyOf
-  inv-mark [] i = (λ e. let p = i .active in absurd (let z : _≡_ {A = ℕ} 0 1 = cc in omega arith), λ n. absurd (n refl))
-  inv-mark (S ∷ Ts) i = (λ e n. let z : _≡_ {A = ℕ} 0 1 = cc in omega arith, λ n. rw (i .active))
+  inv-mark [] i = (λ e. let p = i .active in never cc, λ n. absurd (n refl))
+  inv-mark (S ∷ Ts) i = (λ e n. never cc, λ n. rw (i .active))
 
   inv-current : (given : List Bytes) → Inv session keep start w given → (S : Bytes) (Ts : List Bytes) → given ≡ S ∷ Ts → current w ≡ newest S Ts
   inv-current given i S Ts e = let j : Holds session keep start w S Ts = rw e at i in j .current

@@ -4,10 +4,10 @@ use mathlib.Core.Path.{_≡_, refl, sym, _∙_}
 use mathlib.Core.List.{map}
 use mathlib.Core.Bool.{Bool, true, false, cond, _&&_}
 use mathlib.Core.Logic.{_↔_, _⊎_, inl, inr}
-use native.Mathlib.Omega.{arith}
 use lib.Dec.{leb, eqb}
 use lib.ListN.{length}
 use borrow.Author.Tests.{leb-true, leb-false, le-leb, lt-leb, eqb-true, eqb-false, eq-eqb, ne-eqb}
+use Rattle.order.proofs.Never.{never}
 use Rattle.body.specs.declared.tag.Form.{Form}
 use Rattle.body.specs.declared.tag.Form.the-variants.{Snapshot}
 use Rattle.field.specs.declared.verdict.Verdict.{Verdict}
@@ -30,8 +30,6 @@ use Rattle.past.specs.WellFormed.{wellFormed}
 use Rattle.past.specs.Update.{Step, refuse, first, unchanged, add, deltasWith, admittedStep, stepFor, updateAt, updateOf}
 
 -- two steps or answers that differ: from them anything follows
-never : {X : Type 0} → _≡_ {A = ℕ} 0 1 → X
-never z = absurd (omega arith)
 
 -- an admitted input is good
 pub admitted-fine : (form : Form) (s : Bytes) → admitOneOf form s ≡ Yes → verdict form s ≡ Fine
@@ -39,10 +37,10 @@ admitted-fine form s = go (leb (length s) (limit form)) (verdict form s)
   where
     go : (t : Bool) (v : Verdict) → andThen (cond t Yes (No (TooLong 1))) (verdictAdmitted 1 v) ≡ Yes → v ≡ Fine
     go true Fine e = refl
-    go true (Bad at) e = never (cc)
-    go true (Senseless at) e = never (cc)
-    go true (NotAbove at) e = never (cc)
-    go false v e = never (cc)
+    go true (Bad at) e = never cc
+    go true (Senseless at) e = never cc
+    go true (NotAbove at) e = never cc
+    go false v e = never cc
 
 -- and within its limit
 pub admitted-short : (form : Form) (s : Bytes) → admitOneOf form s ≡ Yes → length s ≤ limit form
@@ -50,7 +48,7 @@ admitted-short form s = go (leb (length s) (limit form)) refl
   where
     go : (t : Bool) → leb (length s) (limit form) ≡ t → andThen (cond t Yes (No (TooLong 1))) (verdictAdmitted 1 (verdict form s)) ≡ Yes → length s ≤ limit form
     go true p e = leb-true (length s) (limit form) p
-    go false p e = never (cc)
+    go false p e = never cc
 
 pub fine-admitted : (form : Form) (s : Bytes) → length s ≤ limit form → verdict form s ≡ Fine → admitOneOf form s ≡ Yes
 fine-admitted form s l e = rw (le-leb (length s) (limit form) l, e)
@@ -60,10 +58,10 @@ pub input-ten : (form : Form) (s : Bytes) → admitOneOf form s ≡ No (TooLong 
 input-ten form s = (go (leb (length s) (limit form)) refl (verdict form s), λ l. rw (lt-leb (length s) (limit form) l))
   where
     go : (t : Bool) → leb (length s) (limit form) ≡ t → (v : Verdict) → andThen (cond t Yes (No (TooLong 1))) (verdictAdmitted 1 v) ≡ No (TooLong 1) → limit form < length s
-    go true p Fine e = never (cc)
-    go true p (Bad at) e = never (cc)
-    go true p (Senseless at) e = never (cc)
-    go true p (NotAbove at) e = never (cc)
+    go true p Fine e = never cc
+    go true p (Bad at) e = never cc
+    go true p (Senseless at) e = never cc
+    go true p (NotAbove at) e = never cc
     go false p v e = leb-false (length s) (limit form) p
 
 -- else with 1, 12 or 2 as the check says
@@ -72,44 +70,44 @@ input-one form s at = (go (leb (length s) (limit form)) refl (verdict form s), �
   where
     go : (t : Bool) → leb (length s) (limit form) ≡ t → (v : Verdict) → andThen (cond t Yes (No (TooLong 1))) (verdictAdmitted 1 v) ≡ No (refusal.Bad 1 at) →
         (length s ≤ limit form) × (v ≡ Bad at)
-    go true p Fine e = never (cc)
+    go true p Fine e = never cc
     go true p (Bad at) e = (leb-true (length s) (limit form) p, cc)
-    go true p (Senseless at) e = never (cc)
-    go true p (NotAbove at) e = never (cc)
-    go false p v e = never (cc)
+    go true p (Senseless at) e = never cc
+    go true p (NotAbove at) e = never cc
+    go false p v e = never cc
 
 pub input-twelve : (form : Form) (s : Bytes) (at : ℕ) → admitOneOf form s ≡ No (refusal.Senseless 1 at) ↔ (length s ≤ limit form) × (verdict form s ≡ Senseless at)
 input-twelve form s at = (go (leb (length s) (limit form)) refl (verdict form s), λ e. rw (le-leb (length s) (limit form) (e .0), e .1))
   where
     go : (t : Bool) → leb (length s) (limit form) ≡ t → (v : Verdict) → andThen (cond t Yes (No (TooLong 1))) (verdictAdmitted 1 v) ≡ No (refusal.Senseless 1 at) →
         (length s ≤ limit form) × (v ≡ Senseless at)
-    go true p Fine e = never (cc)
-    go true p (Bad at) e = never (cc)
+    go true p Fine e = never cc
+    go true p (Bad at) e = never cc
     go true p (Senseless at) e = (leb-true (length s) (limit form) p, cc)
-    go true p (NotAbove at) e = never (cc)
-    go false p v e = never (cc)
+    go true p (NotAbove at) e = never cc
+    go false p v e = never cc
 
 pub input-two : (form : Form) (s : Bytes) (at : ℕ) → admitOneOf form s ≡ No (refusal.NotAbove 1 at) ↔ (length s ≤ limit form) × (verdict form s ≡ NotAbove at)
 input-two form s at = (go (leb (length s) (limit form)) refl (verdict form s), λ e. rw (le-leb (length s) (limit form) (e .0), e .1))
   where
     go : (t : Bool) → leb (length s) (limit form) ≡ t → (v : Verdict) → andThen (cond t Yes (No (TooLong 1))) (verdictAdmitted 1 v) ≡ No (refusal.NotAbove 1 at) →
         (length s ≤ limit form) × (v ≡ NotAbove at)
-    go true p Fine e = never (cc)
-    go true p (Bad at) e = never (cc)
-    go true p (Senseless at) e = never (cc)
+    go true p Fine e = never cc
+    go true p (Bad at) e = never cc
+    go true p (Senseless at) e = never cc
     go true p (NotAbove at) e = (leb-true (length s) (limit form) p, cc)
-    go false p v e = never (cc)
+    go false p v e = never cc
 
 -- no refusal of an input is 7 or 9
 refusal-kind : (form : Form) (s : Bytes) (r : Refusal) → admitOneOf form s ≡ No r → ¬ (r ≡ IllFormed) × ¬ (r ≡ StoreFull)
 refusal-kind form s r = go (leb (length s) (limit form)) (verdict form s)
   where
     go : (t : Bool) (v : Verdict) → andThen (cond t Yes (No (TooLong 1))) (verdictAdmitted 1 v) ≡ No r → ¬ (r ≡ IllFormed) × ¬ (r ≡ StoreFull)
-    go true Fine e = never (cc)
-    go true (Bad at) e = (λ q. never (cc), λ q. never (cc))
-    go true (Senseless at) e = (λ q. never (cc), λ q. never (cc))
-    go true (NotAbove at) e = (λ q. never (cc), λ q. never (cc))
-    go false v e = (λ q. never (cc), λ q. never (cc))
+    go true Fine e = never cc
+    go true (Bad at) e = (λ q. never cc, λ q. never cc)
+    go true (Senseless at) e = (λ q. never cc, λ q. never cc)
+    go true (NotAbove at) e = (λ q. never cc, λ q. never cc)
+    go false v e = (λ q. never cc, λ q. never cc)
 
 -- the step by the outcome of the tests: well formed, admitted, active, the empty difference, room for the snapshot, room for the deltas
 abbrev stepBy : Bool → Admitted → Bool → Bool → Bool → Bool → Bytes → Step
@@ -125,62 +123,62 @@ stepBy true Yes true false false m d = refuse StoreFull
 -- what the tests have found where the update adds a delta, is the first, changes nothing, or is refused with 7
 by-add : (t : Bool) (a : Admitted) (b z l m : Bool) (c d : Bytes) → stepBy t a b z l m c ≡ add d →
     (a ≡ Yes) × (b ≡ true) × (l ≡ true) × (m ≡ true) × (d ≡ c) × (z ≡ false)
-by-add false a b z l m c d e = never (cc)
-by-add true (No r) b z l m c d e = never (cc)
-by-add true Yes false z true m c d e = never (cc)
-by-add true Yes false z false m c d e = never (cc)
-by-add true Yes true true l m c d e = never (cc)
+by-add false a b z l m c d e = never cc
+by-add true (No r) b z l m c d e = never cc
+by-add true Yes false z true m c d e = never cc
+by-add true Yes false z false m c d e = never cc
+by-add true Yes true true l m c d e = never cc
 by-add true Yes true false true true c d e = (refl, refl, refl, refl, cc, refl)
-by-add true Yes true false true false c d e = never (cc)
-by-add true Yes true false false m c d e = never (cc)
+by-add true Yes true false true false c d e = never cc
+by-add true Yes true false false m c d e = never cc
 
 by-first : (t : Bool) (a : Admitted) (b z l m : Bool) (c : Bytes) → stepBy t a b z l m c ≡ first → (a ≡ Yes) × (b ≡ false) × (l ≡ true)
-by-first false a b z l m c e = never (cc)
-by-first true (No r) b z l m c e = never (cc)
+by-first false a b z l m c e = never cc
+by-first true (No r) b z l m c e = never cc
 by-first true Yes false z true m c e = (refl, refl, refl)
-by-first true Yes false z false m c e = never (cc)
-by-first true Yes true true l m c e = never (cc)
-by-first true Yes true false true true c e = never (cc)
-by-first true Yes true false true false c e = never (cc)
-by-first true Yes true false false m c e = never (cc)
+by-first true Yes false z false m c e = never cc
+by-first true Yes true true l m c e = never cc
+by-first true Yes true false true true c e = never cc
+by-first true Yes true false true false c e = never cc
+by-first true Yes true false false m c e = never cc
 
 by-unchanged : (t : Bool) (a : Admitted) (b z l m : Bool) (c : Bytes) → stepBy t a b z l m c ≡ unchanged → (a ≡ Yes) × (z ≡ true) × (b ≡ true)
-by-unchanged false a b z l m c e = never (cc)
-by-unchanged true (No r) b z l m c e = never (cc)
-by-unchanged true Yes false z true m c e = never (cc)
-by-unchanged true Yes false z false m c e = never (cc)
+by-unchanged false a b z l m c e = never cc
+by-unchanged true (No r) b z l m c e = never cc
+by-unchanged true Yes false z true m c e = never cc
+by-unchanged true Yes false z false m c e = never cc
 by-unchanged true Yes true true l m c e = (refl, refl, refl)
-by-unchanged true Yes true false true true c e = never (cc)
-by-unchanged true Yes true false true false c e = never (cc)
-by-unchanged true Yes true false false m c e = never (cc)
+by-unchanged true Yes true false true true c e = never cc
+by-unchanged true Yes true false true false c e = never cc
+by-unchanged true Yes true false false m c e = never cc
 
 by-seven : (a : Admitted) (b z l m : Bool) (c : Bytes) → stepBy true a b z l m c ≡ refuse IllFormed → a ≡ No IllFormed
 by-seven (No r) b z l m c e = cc
-by-seven Yes false z true m c e = never (cc)
-by-seven Yes false z false m c e = never (cc)
-by-seven Yes true true l m c e = never (cc)
-by-seven Yes true false true true c e = never (cc)
-by-seven Yes true false true false c e = never (cc)
-by-seven Yes true false false m c e = never (cc)
+by-seven Yes false z true m c e = never cc
+by-seven Yes false z false m c e = never cc
+by-seven Yes true true l m c e = never cc
+by-seven Yes true false true true c e = never cc
+by-seven Yes true false true false c e = never cc
+by-seven Yes true false false m c e = never cc
 
 -- where 9 comes, the input is good, it changes something, and a store was too short
 by-nine : (a : Admitted) (b z l m : Bool) (c : Bytes) → ¬ (a ≡ No StoreFull) → stepBy true a b z l m c ≡ refuse StoreFull →
     (a ≡ Yes) × (b ≡ true → z ≡ false) × ((l ≡ false) ⊎ ((b ≡ true) × (m ≡ false)))
 by-nine (No r) b z l m c n e = absurd (n (cc))
-by-nine Yes false z true m c n e = never (cc)
-by-nine Yes false z false m c n e = (refl, λ q. never (cc), inl refl)
-by-nine Yes true true l m c n e = never (cc)
-by-nine Yes true false true true c n e = never (cc)
+by-nine Yes false z true m c n e = never cc
+by-nine Yes false z false m c n e = (refl, λ q. never cc, inl refl)
+by-nine Yes true true l m c n e = never cc
+by-nine Yes true false true true c n e = never cc
 by-nine Yes true false true false c n e = (refl, λ q. refl, inr (refl, refl))
 by-nine Yes true false false m c n e = (refl, λ q. refl, inl refl)
 
 -- any other refusal is one of the input
 by-input : (a : Admitted) (b z l m : Bool) (c : Bytes) (r : Refusal) → ¬ (r ≡ StoreFull) → stepBy true a b z l m c ≡ refuse r → a ≡ No r
 by-input (No q) b z l m c r n e = cc
-by-input Yes false z true m c r n e = never (cc)
+by-input Yes false z true m c r n e = never cc
 by-input Yes false z false m c r n e = absurd (n (cc))
-by-input Yes true true l m c r n e = never (cc)
-by-input Yes true false true true c r n e = never (cc)
+by-input Yes true true l m c r n e = never cc
+by-input Yes true false true true c r n e = never cc
 by-input Yes true false true false c r n e = absurd (n (cc))
 by-input Yes true false false m c r n e = absurd (n (cc))
 
@@ -284,9 +282,9 @@ module _ (h : History) (new snapshots deltas : Bytes) where
     where
       go : (s : Step) → updateAt s h new deltas .answer ≡ Refused r → s ≡ refuse r
       go (refuse q) e = cc
-      go first e = never (cc)
-      go unchanged e = never (cc)
-      go (add d) e = never (cc)
+      go first e = never cc
+      go unchanged e = never cc
+      go (add d) e = never cc
 
   -- "first" exactly if the step is the first
   pub first-step : updateOf h new snapshots deltas .answer ≡ First ↔ stepFor h new snapshots deltas ≡ first
@@ -294,10 +292,10 @@ module _ (h : History) (new snapshots deltas : Bytes) where
   first-step = (go (stepFor h new snapshots deltas), λ e. rw e)
     where
       go : (s : Step) → updateAt s h new deltas .answer ≡ First → s ≡ first
-      go (refuse q) e = never (cc)
+      go (refuse q) e = never cc
       go first e = refl
-      go unchanged e = never (cc)
-      go (add d) e = never (cc)
+      go unchanged e = never cc
+      go (add d) e = never cc
 
   -- "unchanged" exactly if the step changes nothing
   pub same-step : updateOf h new snapshots deltas .answer ≡ Unchanged ↔ stepFor h new snapshots deltas ≡ unchanged
@@ -305,10 +303,10 @@ module _ (h : History) (new snapshots deltas : Bytes) where
   same-step = (go (stepFor h new snapshots deltas), λ e. rw e)
     where
       go : (s : Step) → updateAt s h new deltas .answer ≡ Unchanged → s ≡ unchanged
-      go (refuse q) e = never (cc)
-      go first e = never (cc)
+      go (refuse q) e = never cc
+      go first e = never cc
       go unchanged e = refl
-      go (add d) e = never (cc)
+      go (add d) e = never cc
 
   -- "changed" exactly if the step adds a delta with these counts
   pub changed-step : (k : Counts) → updateOf h new snapshots deltas .answer ≡ Changed k → (d : Bytes) × (stepFor h new snapshots deltas ≡ add d) × (k ≡ countsOf d)
@@ -316,9 +314,9 @@ module _ (h : History) (new snapshots deltas : Bytes) where
   changed-step k = go (stepFor h new snapshots deltas)
     where
       go : (s : Step) → updateAt s h new deltas .answer ≡ Changed k → (d : Bytes) × (s ≡ add d) × (k ≡ countsOf d)
-      go (refuse q) e = never (cc)
-      go first e = never (cc)
-      go unchanged e = never (cc)
+      go (refuse q) e = never cc
+      go first e = never cc
+      go unchanged e = never cc
       go (add d) e = (d, refl, cc)
 
   pub step-changed : (d : Bytes) → stepFor h new snapshots deltas ≡ add d → updateOf h new snapshots deltas .answer ≡ Changed (countsOf d)

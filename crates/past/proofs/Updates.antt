@@ -10,6 +10,7 @@ use lib.Dec.{leb, eqb}
 use lib.ListN.{length, length-take}
 use lib.Seq.{drop-nil}
 use borrow.Author.Tests.{leb-true, leb-false, eqb-true, eqb-false}
+use Rattle.order.proofs.Never.{never}
 use Rattle.change.specs.History.{lastN}
 use Rattle.change.proofs.Chain.{all-newest}
 use Rattle.serial.specs.declared.Serial.{Serial}
@@ -27,6 +28,7 @@ use Rattle.delta.specs.Admission.{admitOneOf}
 use Rattle.delta.specs.Answer.{differenceOf, countsOf}
 use Rattle.delta.specs.Demand.{GoodSnapshot, Acceptable}
 use Rattle.delta.proofs.Differences.{difference-empty, difference-self}
+use Rattle.delta.proofs.Demand.{no-bytes}
 use Rattle.past.specs.declared.update.Update.{Update}
 use Rattle.past.specs.declared.update.Update.the-variants.{First, Unchanged, Changed}
 use Rattle.past.specs.Store.{total}
@@ -39,16 +41,10 @@ use Rattle.past.proofs.Invariant.{Waits, Holds, Inv, waits-formed, hold
 use Rattle.past.proofs.Numbers.{through, update-refused}
 
 -- two answers that differ: from them anything follows
-never : {X : Type 0} → _≡_ {A = ℕ} 0 1 → X
-never z = absurd (omega arith)
-
-pub empty : (s : Bytes) → length s ≡ 0 → s ≡ []
-empty [] e = refl
-empty (x ∷ s) e = absurd (omega arith)
 
 -- a list with a first member is not empty
 full-list : {A X : Type 0} {x : A} {l : List A} → x ∷ l ≡ [] → X
-full-list e = never (cc)
+full-list e = never cc
 
 -- a list that is not longer is not longer, and else it is
 short-or-long : (m n : ℕ) → ¬ (m ≤ n) → n < m
@@ -76,16 +72,16 @@ module _ (w : World) (new : Bytes) where
     of-input r n = through (update-refused answer r) (input-refused (w .history) new (w .snapshots) (w .deltas) formed r n)
 
     ten : refusedAs (replyOf w (update new)) ≡ refusal 10 1 0 ↔ limit Snapshot < length new
-    ten = through (of-input (refusals.TooLong 1) (λ e. never (cc))) (input-ten Snapshot new)
+    ten = through (of-input (refusals.TooLong 1) (λ e. never cc)) (input-ten Snapshot new)
 
     one : (at : ℕ) → refusedAs (replyOf w (update new)) ≡ refusal 1 1 at ↔ (length new ≤ limit Snapshot) × (verdict Snapshot new ≡ Bad at)
-    one at = through (of-input (refusals.Bad 1 at) (λ e. never (cc))) (input-one Snapshot new at)
+    one at = through (of-input (refusals.Bad 1 at) (λ e. never cc)) (input-one Snapshot new at)
 
     twelve : (at : ℕ) → refusedAs (replyOf w (update new)) ≡ refusal 12 1 at ↔ (length new ≤ limit Snapshot) × (verdict Snapshot new ≡ Senseless at)
-    twelve at = through (of-input (refusals.Senseless 1 at) (λ e. never (cc))) (input-twelve Snapshot new at)
+    twelve at = through (of-input (refusals.Senseless 1 at) (λ e. never cc)) (input-twelve Snapshot new at)
 
     two : (at : ℕ) → refusedAs (replyOf w (update new)) ≡ refusal 2 1 at ↔ (length new ≤ limit Snapshot) × (verdict Snapshot new ≡ NotAbove at)
-    two at = through (of-input (refusals.NotAbove 1 at) (λ e. never (cc))) (input-two Snapshot new at)
+    two at = through (of-input (refusals.NotAbove 1 at) (λ e. never cc)) (input-two Snapshot new at)
 
   -- 9 exactly if the step says so
   nine-step : refusedAs (replyOf w (update new)) ≡ refusal 9 0 0 ↔ step ≡ refuse refusals.StoreFull
@@ -122,11 +118,11 @@ module _ (session keep : ℕ) (start : Serial) (w : World) (new : Bytes) (octets
       where
         over : (length (w .snapshots) < length new) ⊎ ((w .history .active ≡ true) × (length (w .deltas) < total (map length (deltasWith (w .history) (w .deltas) (c w new))))) → ¬ Room keep w [] new
         over (inl l) m = let k = m .snapshot in omega arith
-        over (inr l) m = let q : w .history .active ≡ true = l .0 in let p = i .active in absurd (never (cc))
+        over (inr l) m = let q : w .history .active ≡ true = l .0 in let p = i .active in never cc
 
     -- an inactive history has nothing that could stay or change
     inactive : {X : Type 0} → w .history .active ≡ true → X
-    inactive q = let p = i .active in never (cc)
+    inactive q = let p = i .active in never cc
 
     no-change : {X : Type 0} → answer w new ≡ Unchanged → X
     no-change e = inactive (step-unchanged (w .history) new (w .snapshots) (w .deltas) (same-step (w .history) new (w .snapshots) (w .deltas) .0 e) .2)
@@ -161,7 +157,7 @@ module _ (session keep : ℕ) (start : Serial) (w : World) (new : Bytes) (octets
 
     -- the empty difference is that of the current snapshot
     same-current : GoodSnapshot new → length (c w new) ≡ 0 → new ≡ current w
-    same-current g e = sym (difference-empty (current w) new good-current g (empty (c w new) e))
+    same-current g e = sym (difference-empty (current w) new good-current g (no-bytes (c w new) e))
 
     current-same : new ≡ current w → length (c w new) ≡ 0
     current-same e = ap (λ (s : Bytes). length (differenceOf (current w) s)) e ∙ ap length (difference-self (current w) good-current)
@@ -223,7 +219,7 @@ module _ (session keep : ℕ) (start : Serial) (w : World) (new : Bytes) (octets
     no-first : {X : Type 0} → answer w new ≡ First → X
     no-first e =
         let p = step-first (w .history) new (w .snapshots) (w .deltas) (first-step (w .history) new (w .snapshots) (w .deltas) .0 e) .active in
-        let q = i .active in never (cc)
+        let q = i .active in never cc
 
     -- the current snapshot again, or a change
     accepted : Acceptable new → Room keep w (S ∷ Ts) new → refusedAs (replyOf w (update new)) ≡ none

@@ -21,7 +21,7 @@ use Rattle.payload.specs.Content.{Bytes}
 use Rattle.payload.specs.Valid.{ValidValue, ValidChange, IsMap, origin, routerKey, aspa, validAnnounce, validWithdraw, validUpdate}
 
 -- a property of what stands at a key, if anything does
-abbrev At : {K C : Type 0} → (K → C → Type 0) → K → Option C → Type 0
+abbrev pub At : {K C : Type 0} → (K → C → Type 0) → K → Option C → Type 0
 At R k none = Unit {0}
 At R k (some c) = R k c
 

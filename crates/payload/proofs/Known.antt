@@ -3,9 +3,9 @@ use Prim.Native.Nat.{ℕ}
 use mathlib.Core.Path.{_≡_, refl}
 use mathlib.Core.List.{List}
 use mathlib.Core.Bool.{Bool, true, false, cond}
-use native.Mathlib.Omega.{arith}
 use lib.Dec.{eqb}
 use borrow.Author.Tests.{eqb-true}
+use Rattle.order.proofs.Never.{never}
 use Rattle.body.specs.declared.tag.Form.{Form}
 use Rattle.body.specs.declared.tag.Form.the-variants.{Snapshot, Delta}
 use Rattle.body.specs.declared.tag.Tag.{Tag}
@@ -24,8 +24,6 @@ pub data Known : Form → ℕ → Type 0 where
   updatedAspa : Known Delta 0x33
 
 -- no body is good under an unknown tag
-never : {X : Type 0} → false ≡ true → X
-never e = absurd (let z : _≡_ {A = ℕ} 0 1 = cc in omega arith)
 
 -- a test for one tag more: it is that one, or the rest decides
 one-of : (form : Form) (tag k : ℕ) (b : List ℕ) (this rest : Tag) → Known form k →
@@ -40,11 +38,11 @@ pub known : (form : Form) (tag : ℕ) (b : List ℕ) → goodBody form tag b ≡
 unfolding goodBody tagOf
 known Snapshot tag b =
     one-of Snapshot tag 0x01 b _ _ origin
-    (one-of Snapshot tag 0x02 b _ _ routerKey (one-of Snapshot tag 0x03 b _ _ aspa (λ h. never h)))
+    (one-of Snapshot tag 0x02 b _ _ routerKey (one-of Snapshot tag 0x03 b _ _ aspa (λ h. never cc)))
 known Delta tag b =
     one-of Delta tag 0x11 b _ _ announcedOrigin
     (one-of Delta tag 0x12 b _ _ withdrawnOrigin
     (one-of Delta tag 0x21 b _ _ announcedKey
     (one-of Delta tag 0x22 b _ _ withdrawnKey
     (one-of Delta tag 0x31 b _ _ announcedAspa
-    (one-of Delta tag 0x32 b _ _ withdrawnAspa (one-of Delta tag 0x33 b _ _ updatedAspa (λ h. never h)))))))
+    (one-of Delta tag 0x32 b _ _ withdrawnAspa (one-of Delta tag 0x33 b _ _ updatedAspa (λ h. never cc)))))))

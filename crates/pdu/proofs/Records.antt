@@ -1,19 +1,19 @@
 -- Laws of the messages of records.
-use Prim.Native.Nat.{ℕ, _+_, _-_, _*_, _/_, _%_, _<_, _≤_, _^_, min}
+use Prim.Native.Nat.{ℕ, _+_, _-_, _/_, _%_, _<_, _≤_, _^_}
 use mathlib.Core.Path.{_≡_, refl, sym, ap, ap₂, _∙_}
 use mathlib.Core.List.{[], _∷_, _++_}
 use mathlib.Core.Bool.{Bool, true, false, cond}
 use native.Mathlib.Omega.{arith}
 use borrow.Author.Tests.{eq-eqb, ne-eqb, eqb-true, eqb-false}
-use mir.Syntax.{w8, w64}
+use mir.Syntax.{w8}
 use mir.Val.{Fits}
 use lib.Dec.{eqb}
 use lib.ListN.{length, getD, take, drop, length-take, length-drop, length-append, take-append-drop}
-use lib.Seq.{sets, length-sets, getD-take, getD-drop, take-take, drop-drop, take-add, take-append-le, length-take-le, take-at, drop-at}
+use lib.Seq.{sets, length-sets, getD-take, getD-drop, take-take, drop-drop, take-add, length-take-le}
 use Rattle.number.specs.Number.{twoBytes, fourBytes, wordAt, wordBytes}
 use Rattle.number.specs.Bytes.{part}
-use Rattle.number.proofs.Numbers.{bytes-of-word}
-use Rattle.body.specs.Origin.{family, address, prefixLength, maximumLength}
+use Rattle.number.proofs.Numbers.{bytes-of-word, high-half, low-half, bytes-of-four}
+use Rattle.body.specs.Origin.{family, address}
 use Rattle.field.specs.declared.key.Key.{Key}
 use Rattle.field.specs.Places.{keyIn}
 use Rattle.payload.specs.Content.{Bytes}
@@ -23,7 +23,7 @@ use Rattle.item.proofs.Places.{drop-take}
 use Rattle.message.specs.declared.version.Version.{Version}
 use Rattle.message.specs.Message.{header, pdu}
 use Rattle.message.specs.Record.{messageOf, routerKeyOf}
-use Rattle.pdu.specs.Write.{ipv4Of, ipv6Of, lengthsOf, flagsPlace, sizeOf, Lies23, Body, Sayable, PutIs}
+use Rattle.pdu.specs.Write.{ipv4Of, ipv6Of, lengthsOf, sizeOf, Lies23, Body, Sayable, PutIs}
 use Rattle.pdu.proofs.Heads.{join}
 use Rattle.pdu.proofs.Fixing.{four, eight}
 
@@ -48,28 +48,20 @@ module _ (s : Bytes) (from : ℕ) where
   address-is : address body ≡ take 16 (drop (from + 1) s)
   address-is = ap (take 16) (body-from 1 (omega arith)) ∙ take-take 16 22 (drop (from + 1) s) (omega arith)
 
-  -- the two halves of a word
+  -- the bytes of a word's halves
   module _ (octets : (i : ℕ) → Fits w8 (getD s i 0)) (j : ℕ) (h : j + 8 ≤ length s) where
-    split : fourBytes (wordAt s j / 4_294_967_296) ++ fourBytes (wordAt s j % 4_294_967_296) ≡ take 8 (drop j s)
-    unfolding wordBytes
-    split = bytes-of-word s octets j h
+    high-four : fourBytes (wordAt s j / 4_294_967_296) ≡ take 4 (drop j s)
+    high-four = ap fourBytes (high-half s octets j) ∙ bytes-of-four s octets j (omega arith)
 
-    high-half : fourBytes (wordAt s j / 4_294_967_296) ≡ take 4 (drop j s)
-    high-half =
-        sym (take-at (fourBytes (wordAt s j / 4_294_967_296)) (fourBytes (wordAt s j % 4_294_967_296)) 4 (four (wordAt s j / 4_294_967_296)))
-        ∙ ap (take 4) split ∙ take-take 4 8 (drop j s) (omega arith)
-
-    low-half : fourBytes (wordAt s j % 4_294_967_296) ≡ take 4 (drop (j + 4) s)
-    low-half =
-        sym (drop-at (fourBytes (wordAt s j / 4_294_967_296)) (fourBytes (wordAt s j % 4_294_967_296)) 4 (four (wordAt s j / 4_294_967_296)))
-        ∙ ap (drop 4) split ∙ drop-take 4 8 (drop j s) ∙ ap (take 4) (drop-drop 4 j s)
+    low-four : fourBytes (wordAt s j % 4_294_967_296) ≡ take 4 (drop (j + 4) s)
+    low-four = ap fourBytes (low-half s octets j) ∙ bytes-of-four s octets (j + 4) (omega arith)
 
   module _ (octets : (i : ℕ) → Fits w8 (getD s i 0)) (l : Lies23 s from) where
     pub asn-is : (o p : Bytes) (i w : ℕ) → w ≡ wordAt s (from + 15) → p ≡ sets o i (fourBytes (w % 4_294_967_296)) → p ≡ sets o i (part s (from + 19) (from + 23))
     asn-is o p i w e f =
         let a : from + 15 + 4 ≡ from + 19 = omega arith in
         let b : from + 23 - (from + 19) ≡ 4 = omega arith in
-        let g : fourBytes (wordAt s (from + 15) % 4_294_967_296) ≡ take 4 (drop (from + 15 + 4) s) = low-half octets (from + 15) (omega (arith, l .within)) in
+        let g : fourBytes (wordAt s (from + 15) % 4_294_967_296) ≡ take 4 (drop (from + 15 + 4) s) = low-four octets (from + 15) (omega (arith, l .within)) in
         let k : fourBytes (w % 4_294_967_296) ≡ part s (from + 19) (from + 23) = rw (e, b) (rw a at g) in
         f ∙ ap (sets o i) k
 
@@ -97,7 +89,7 @@ module _ (s : Bytes) (from : ℕ) where
       unfolding pdu
       ipv4-is r t w ep ew er et =
           let a : fourBytes (w / 4_294_967_296) ≡ take 4 (address body) =
-          ap (λ (x : ℕ). fourBytes (x / 4_294_967_296)) ew ∙ high-half octets (from + 1) (omega (arith, l .within))
+          ap (λ (x : ℕ). fourBytes (x / 4_294_967_296)) ew ∙ high-four octets (from + 1) (omega (arith, l .within))
           ∙ sym (ap (take 4) address-is ∙ take-take 4 16 (drop (from + 1) s) (omega arith)) in
           let er₂ : r ≡ sets q (i + 12) (take 4 (address body)) = er ∙ ap (sets q (i + 12)) a in
           let et₂ : t ≡ sets r (i + 16) (drop 19 body) = et ∙ ap (sets r (i + 16)) last-is in

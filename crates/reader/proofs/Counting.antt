@@ -6,6 +6,7 @@ use mathlib.Core.List.{List, []}
 use native.Mathlib.Omega.{arith}
 use borrow.Author.Tests.{ne-eqb}
 use lib.ListN.{length, drop}
+use Rattle.order.proofs.Never.{never}
 use Rattle.field.specs.declared.head.Field.{Field}
 use Rattle.field.specs.declared.head.Field.the-variants.{End, Cut, Whole}
 use Rattle.field.specs.Cells.{cells}
@@ -88,7 +89,7 @@ module _ (s : List ℕ) (at : ℕ) (f : Field) (e : f ≡ fieldAt s at) where
       go : (g : Field) → f ≡ g → isOver g ≡ true → cells (drop at s) ≡ []
       go End p q = good-end s at f e p
       go Cut p q = cells-at-cut (drop at s) (cut-at s at f e p)
-      go (Whole tag from to) p q = absurd (let z : _≡_ {A = ℕ} 0 1 = cc in omega arith)
+      go (Whole tag from to) p q = never cc
 
   module _ (c : Tally) (h : Counted s at c) where
     -- the last one: all fields are counted
@@ -105,8 +106,8 @@ module _ (s : List ℕ) (at : ℕ) (f : Field) (e : f ≡ fieldAt s at) where
     counted-more l = go f refl l
       where
         go : (g : Field) → f ≡ g → isOver g ≡ false → More s at f c
-        go End p q = absurd (let z : _≡_ {A = ℕ} 0 1 = cc in omega arith)
-        go Cut p q = absurd (let z : _≡_ {A = ℕ} 0 1 = cc in omega arith)
+        go End p q = never cc
+        go Cut p q = never cc
         go (Whole tag from to) p q =
             let long = field-long s at f e tag from to p in
             let within = body-within s at f e tag from to p in

@@ -1,15 +1,16 @@
 -- What is heard in an answer that was written: its items, in order, each once, and its end.
 use Prim.Native.Nat.{ℕ, zero, suc, _+_, _-_, _*_, _%_, _^_, _<_, _≤_}
 use mathlib.Core.Path.{_≡_, refl, sym, ap, ap₂, _∙_}
-use mathlib.Core.List.{List, [], _∷_, _++_, map, append-nil, append-assoc}
+use mathlib.Core.List.{List, [], _∷_, _++_, map, append-assoc}
 use mathlib.Core.Bool.{Bool, true, false, cond, _&&_}
 use native.Mathlib.Omega.{arith}
-use borrow.Author.Tests.{eqb-true, eqb-false, eq-eqb, leb-true}
+use borrow.Author.Tests.{eqb-true, eq-eqb, leb-true}
 use lib.Dec.{leb, eqb}
 use lib.ListN.{length, getD, take, drop, replicate, length-append, length-take, length-drop, take-append-drop}
 use lib.Seq.{drop-drop, drop-cons}
-use Rattle.order.specs.Map.{Item, All}
-use Rattle.change.specs.Change.{Change, announce, withdraw, update}
+use Rattle.order.specs.Map.{All}
+use Rattle.order.proofs.Never.{never}
+use Rattle.change.specs.Change.{Change, announce, withdraw}
 use Rattle.change.specs.Difference.{Delta}
 use Rattle.serial.specs.declared.timing.Timing.{Timing}
 use Rattle.number.specs.Number.{twoBytes, fourBytes}
@@ -19,18 +20,18 @@ use Rattle.body.specs.Origin.{family, address, prefixLength, maximumLength, cle
 use Rattle.body.specs.RouterKey.{goodRouterKey}
 use Rattle.body.proofs.Sizes.{both}
 use Rattle.payload.specs.Content.{Bytes}
-use Rattle.payload.specs.Valid.{ValidValue, ValidChange, origin, routerKey, aspa, validAnnounce, validWithdraw, validUpdate}
+use Rattle.payload.specs.Valid.{ValidChange, origin, routerKey, aspa, validAnnounce, validWithdraw, validUpdate}
 use Rattle.item.proofs.Fronts.{drop-bytes, take-bytes}
 use Rattle.message.specs.declared.version.Version.{Version}
-use Rattle.message.specs.declared.version.Version.the-variants.{Rfc6810, Rfc8210}
-use Rattle.message.specs.Version.{speaks, timesTold, endLength}
+use Rattle.message.specs.Version.{speaks, timesTold}
 use Rattle.message.specs.Message.{Message, cacheResponse, endOfData, pdu, pdus}
 use Rattle.message.specs.Message as message
-use Rattle.message.specs.Record.{Part, opening, payload, ending, misplaced, prefixOf, routerKeyOf, messageOf, flagsOf, flagged, payloadOf, goodRecord, partOf}
-use Rattle.message.specs.Say.{spoken, sayOf, said, answer}
-use Rattle.message.specs.Read.{Front, read, front}
-use Rattle.message.specs.Hear.{Told, Heard, Stop, ended, faulty, stopped, more, endAt, hearPart, hearFront, hearF, openPart, openFront, hear}
+use Rattle.message.specs.Record.{Part, payload, prefixOf, routerKeyOf, messageOf, flagsOf, payloadOf, goodRecord, partOf}
+use Rattle.message.specs.Say.{spoken, sayOf, answer}
+use Rattle.message.specs.Read.{Front, read}
+use Rattle.message.specs.Hear.{ended, more, hearPart, hearFront, hearF, openFront, hear}
 use Rattle.message.specs.Take.{asItem}
+use Rattle.wire.proofs.Counting.{aspas-unspoken}
 use Rattle.router.specs.Send.{TimesFit, Sendable}
 use Rattle.router.specs.Heard.{X, Spoken, toldFrom}
 use Rattle.router.proofs.Trip.{end-trip, trip}
@@ -118,12 +119,8 @@ announced-part k g = rw g
 withdrawn-part : (k : Bytes) → goodRecord k ≡ true → payloadOf 0 k ≡ payload k (withdraw [])
 withdrawn-part k g = rw g
 
-aspa-unspoken : (v : Version) → speaks v 3 ≡ false
-aspa-unspoken Rfc6810 = refl
-aspa-unspoken Rfc8210 = refl
-
 unsaid : {A : Type 0} (v : Version) → speaks v 3 ≡ true → A
-unsaid v e = absurd (let z : true ≡ false = sym e ∙ aspa-unspoken v in let w : _≡_ {A = ℕ} 0 1 = cc in omega arith)
+unsaid v e = let z : true ≡ false = sym e ∙ aspas-unspoken v in never cc
 
 pub part-is : (v : Version) (x : X) → Spoken v x → partOf (sayOf x) ≡ payload (x .key) (x .val)
 unfolding messageOf

@@ -1,12 +1,8 @@
 -- The keys of what bytes say are made of bytes.
-use Prim.Native.Nat.{ℕ, _<_}
-use mathlib.Core.Path.{_≡_, refl, ap, _∙_}
+use mathlib.Core.Path.{_≡_, refl}
 use mathlib.Core.List.{List, [], _∷_}
 use mathlib.Core.Option.{Option, none, some}
-use mathlib.Core.Bool.{Bool, true, false, cond}
 use native.Mathlib.Omega.{arith}
-use lib.Dec.{eqb}
-use lib.ListN.{take}
 use Rattle.order.specs.declared.Ordering.{Ordering}
 use Rattle.order.specs.declared.Ordering.the-variants.{Less, Equal, Greater}
 use Rattle.order.specs.Comparison.{bytes}
@@ -18,33 +14,16 @@ use Rattle.change.specs.Difference.{Snapshot, diffAt, diff}
 use Rattle.number.specs.Bytes.{AllBytes}
 use Rattle.body.specs.declared.tag.Form.{Form}
 use Rattle.body.specs.declared.tag.Form.the-variants as form
-use Rattle.body.specs.declared.tag.Tag.{Tag}
-use Rattle.body.specs.declared.tag.Tag.the-variants.{Unknown, Origin, RouterKey, Aspa}
-use Rattle.body.specs.Tag.{tagOf, kindNumber, kindOf}
+use Rattle.body.specs.Tag.{kindOf}
 use Rattle.field.specs.declared.verdict.Verdict.the-variants.{Fine}
 use Rattle.field.specs.Verdict.{verdict}
-use Rattle.field.specs.Key.{keyOf}
 use Rattle.field.specs.Run.{Run, done, more}
 use Rattle.field.proofs.Encode.{field-front, rest-bytes}
 use Rattle.field.proofs.Walk.{good-start}
 use Rattle.payload.specs.Content.{Bytes, Content}
 use Rattle.payload.specs.Payload.{entries, items}
 use Rattle.payload.proofs.Faithful.{body-bytes, entries-end, entries-more}
-use Rattle.item.proofs.Fronts.{take-bytes, cons-bytes}
-
-kind-low : (t : Tag) → kindNumber t < 256
-kind-low Unknown = omega arith
-kind-low (Origin a) = omega arith
-kind-low (RouterKey a) = omega arith
-kind-low (Aspa a) = omega arith
-
-key-bytes : (kind : ℕ) (b : Bytes) → kind < 256 → AllBytes b → AllBytes (keyOf kind b)
-unfolding keyOf
-key-bytes kind b h o = go (eqb kind 3)
-  where
-    go : (t : Bool) → AllBytes (kind ∷ cond t (take 4 b) b)
-    go true = cons-bytes kind (take 4 b) h (take-bytes 4 b o)
-    go false = cons-bytes kind b h o
+use Rattle.item.proofs.Heres.{low-kind, key-octets}
 
 module _ (form : Form) where
   entry-bytes : {k s : Bytes} → Run form k s → AllBytes s → All (λ (x : Item Bytes (Content form)). AllBytes (x .key)) (entries form s)
@@ -53,7 +32,7 @@ module _ (form : Form) where
   entry-bytes (more {k} {s} tag b rest e g z l r) o =
       let f = field-front s tag b rest o e in
       rw (entries-more form s tag b rest e)
-      (key-bytes (kindOf form tag) b (kind-low (tagOf form tag)) (body-bytes s tag b rest o f), entry-bytes r (rest-bytes s tag b rest o f))
+      (key-octets (kindOf form tag) b (omega (arith, low-kind form tag)) (body-bytes s tag b rest o f), entry-bytes r (rest-bytes s tag b rest o f))
 
 pub item-bytes : (s : Bytes) → AllBytes s → verdict form.Snapshot s ≡ Fine → All (λ (x : Item Bytes Bytes). AllBytes (x .key)) (items s)
 item-bytes s o f = entry-bytes form.Snapshot (good-start form.Snapshot s f .run) o

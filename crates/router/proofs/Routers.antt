@@ -1,11 +1,11 @@
 -- A router that holds what a version speaks of, and takes what is said of a delta.
-use mathlib.Core.Path.{_≡_, refl, sym, ap, _∙_}
+use mathlib.Core.Path.{_≡_, refl, ap, _∙_}
 use mathlib.Core.List.{List, [], _∷_, map}
 use mathlib.Core.Option.{none}
 use mathlib.Core.Bool.{Bool, true, false, cond}
 use lib.ListN.{getD}
 use Rattle.order.specs.Comparison.{bytes}
-use Rattle.order.specs.Map.{Item, lookup, All, Sorted}
+use Rattle.order.specs.Map.{lookup, All, Sorted}
 use Rattle.order.proofs.Comparison.{strings}
 use Rattle.order.proofs.Map.{ext}
 use Rattle.change.specs.Difference.{Snapshot, Delta}

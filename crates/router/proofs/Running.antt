@@ -1,20 +1,19 @@
 -- Demand 3 carried to the wire.
-use Prim.Native.Nat.{ℕ, _-_, _%_, _^_, _<_, _≤_}
+use Prim.Native.Nat.{ℕ, _-_, _^_, _<_}
 use mathlib.Core.Path.{_≡_, refl, sym, ap, ap₂, _∙_}
-use mathlib.Core.List.{List, [], _∷_, _++_, map}
+use mathlib.Core.List.{[], map}
 use mathlib.Core.Bool.{Bool, true, false, cond}
-use mathlib.Core.Option.{some}
 use native.Mathlib.Omega.{arith}
-use borrow.Author.Tests.{le-leb, leb-true}
+use borrow.Author.Tests.{le-leb}
 use lib.Dec.{leb}
 use lib.ListN.{length, take, drop}
 use lib.Seq.{take-at}
 use Rattle.order.specs.Comparison.{bytes}
-use Rattle.order.specs.Map.{All, Sorted}
+use Rattle.order.specs.Map.{All}
+use Rattle.order.proofs.Never.{never}
 use Rattle.order.proofs.Comparison.{strings}
 use Rattle.change.specs.Difference as change
 use Rattle.change.specs.Difference.{diff}
-use Rattle.change.specs.Application.{apply}
 use Rattle.change.specs.History.{lastN}
 use Rattle.change.proofs.Whole.{yields, applies}
 use Rattle.change.proofs.Chain.{all-drop}
@@ -25,10 +24,9 @@ use Rattle.serial.specs.Serial.{zeroSession, distanceOf, sessionOf}
 use Rattle.serial.specs.Timing.{timingOf}
 use Rattle.serial.proofs.Bounds.{intervals}
 use Rattle.body.specs.declared.tag.Form.the-variants.{Snapshot, Delta}
-use Rattle.field.specs.Cells as run
 use Rattle.payload.specs.Content.{Bytes}
 use Rattle.payload.specs.Written.{writtenOver}
-use Rattle.payload.specs.Payload.{entries, encode, items, changes}
+use Rattle.payload.specs.Payload.{entries, items, changes}
 use Rattle.payload.specs.Valid.{IsMap}
 use Rattle.payload.proofs.Faithful.{faithful, entries-end}
 use Rattle.payload.proofs.Closed.{diff-map, merge-all-map}
@@ -37,19 +35,19 @@ use Rattle.message.specs.declared.version.Version.the-variants.{Rfc6810, Rfc821
 use Rattle.message.specs.Message.{cacheReset, pdu, pdus}
 use Rattle.message.specs.Say.{spoken, answer}
 use Rattle.message.specs.Take.{all}
-use Rattle.message.specs.Take as router
 use Rattle.delta.specs.declared.refusal.Refusal.{Refusal}
 use Rattle.delta.specs.declared.refusal.Refusal.the-variants.{NoRoom, IllFormed}
 use Rattle.delta.specs.Answer.{differenceOf, countsOf}
 use Rattle.delta.specs.Demand.{GoodSnapshot}
+use Rattle.delta.proofs.Differences.{empty-good, good-map}
 use Rattle.past.specs.declared.state.History.{History}
 use Rattle.past.specs.declared.query.Answer.the-variants.{Served}
-use Rattle.past.specs.Store.{cuts, heldDeltas}
+use Rattle.past.specs.Store.{heldDeltas}
 use Rattle.past.specs.WellFormed.{wellFormed}
 use Rattle.past.specs.Query.{isServed, isSession, mergedLast, answerOf, queryOf, queryOut}
 use Rattle.past.specs.Full.{notifyOf}
-use Rattle.past.specs.Run.{World, Call, Reply, noticed, updated, queried, fully, isReady, Reached, startOf, runOf, carried}
-use Rattle.past.specs.Promise.{serialIn, current, queriedIn, writtenIn, Promise, Leads}
+use Rattle.past.specs.Run.{World, Reply, noticed, updated, queried, fully, isReady, Reached, startOf, runOf}
+use Rattle.past.specs.Promise.{serialIn, current, queriedIn, writtenIn, Promise}
 use Rattle.past.proofs.Lists.{all-map}
 use Rattle.past.proofs.Runs.{promise}
 use Rattle.past.proofs.Given.{given-good, all-carried, good-current}
@@ -61,7 +59,7 @@ use Rattle.wire.specs.declared.sent.Reply.the-variants.{Data, Reset, Report}
 use Rattle.wire.specs.Answer.{Plan, refuse, aside, refusedWith, reportBytes, frameOf, answerBytes, tallyOf, sentAt, outAt, dataPlan, resetPlan, reportPlan, changesSince, queryPlan, allNew, fullPlan}
 use Rattle.router.specs.Send.{TimesFit}
 use Rattle.router.specs.Heard.{Spoken, toldFrom}
-use Rattle.router.specs.Promise.{HeardAs, LeadsOn, Home, queryIn, fullIn, written, Wire, EveryWire}
+use Rattle.router.specs.Promise.{LeadsOn, Home, queryIn, fullIn, written, Wire, EveryWire}
 use Rattle.router.proofs.Heard.{hear-answer, told-items}
 use Rattle.router.proofs.Routers.{router-takes, spoken-all}
 use Rattle.router.proofs.Octets.{item-bytes, diff-bytes}
@@ -79,27 +77,27 @@ module _ (v : Version) (f : Frame) (D : change.Delta Bytes Bytes) (out : Bytes) 
       go : (b : Bool) → (cond b (record { session = f .session; serial = f .serial; reply = Data (tallyOf v whole D) }) (refusedWith NoRoom)) .reply ≡ Data t →
           take (t .len) (cond b (writtenOver whole out) out) ≡ whole
       go true h = let e : tallyOf v whole D ≡ t = cc in take-at whole (drop (length whole) out) (t .len) (ap (λ (x : Tally). x .len) e)
-      go false h = absurd (let z : _≡_ {A = ℕ} 0 1 = cc in omega arith)
+      go false h = never cc
 
 reset-no : {A : Type 0} (v : Version) (n : ℕ) (t : Tally) → sentAt (resetPlan v) n .reply ≡ Data t → A
 unfolding sentAt resetPlan
 reset-no v n t = go (leb (length (pdu v cacheReset)) n)
   where
     go : {A : Type 0} (b : Bool) → (cond b (aside (Reset (length (pdu v cacheReset)))) (refusedWith NoRoom)) .reply ≡ Data t → A
-    go true h = absurd (let z : _≡_ {A = ℕ} 0 1 = cc in omega arith)
-    go false h = absurd (let z : _≡_ {A = ℕ} 0 1 = cc in omega arith)
+    go true h = never cc
+    go false h = never cc
 
 report-no : {A : Type 0} (v : Version) (s : Session) (q : Serial) (n : ℕ) (t : Tally) → sentAt (reportPlan v s q) n .reply ≡ Data t → A
 unfolding sentAt reportPlan
 report-no v s q n t = go (leb (length (reportBytes v s q)) n)
   where
     go : {A : Type 0} (b : Bool) → (cond b (aside (Report (length (reportBytes v s q)))) (refusedWith NoRoom)) .reply ≡ Data t → A
-    go true h = absurd (let z : _≡_ {A = ℕ} 0 1 = cc in omega arith)
-    go false h = absurd (let z : _≡_ {A = ℕ} 0 1 = cc in omega arith)
+    go true h = never cc
+    go false h = never cc
 
 refuse-no : {A : Type 0} (r : Refusal) (n : ℕ) (t : Tally) → sentAt (refuse r) n .reply ≡ Data t → A
 unfolding sentAt
-refuse-no r n t h = absurd (let z : _≡_ {A = ℕ} 0 1 = cc in omega arith)
+refuse-no r n t h = never cc
 
 -- a query that gets data passed all tests
 pub record Passed (v : Version) (h : History) (s : Session) (asked : Serial) (times : Timing) (snapshots deltas out : Bytes) (t : Tally) : Type 0 where
@@ -144,10 +142,10 @@ module _ (v : Version) (session : ℕ) (serial : Serial) (times : Timing) (bound
   C = items now
 
   map-a : IsMap Snapshot A
-  map-a = faithful Snapshot .map-of base (gb .fine)
+  map-a = good-map base gb
 
   map-c : IsMap Snapshot C
-  map-c = faithful Snapshot .map-of now (gn .fine)
+  map-c = good-map now gn
 
   map-d : IsMap Delta (diff bytes bytes A C)
   map-d = diff-map A C map-a map-c
@@ -212,10 +210,6 @@ module _ (v : Version) (session keep : ℕ) (start : Serial) (r : Reached) (p : 
   bytes-are : (D : change.Delta Bytes Bytes) → answerBytes v (frameOf h times) D ≡ pdus v (answer v (sessionOf session .0) (F .0) (timingOf times) D)
   bytes-are D = ap₂ (λ (s : Session) (n : Serial). pdus v (answer v (s .0) (n .0) (timingOf times) D)) own (p .serial)
 
-  -- what a served query would have written as a delta
-  plain : (s : Session) (asked : Serial) → Bytes → Type 0
-  plain s asked out = queriedIn w s asked (length out) .answer ≡ Served (countsOf (answerOf h asked (w .deltas)))
-
   module _ (s : Session) (asked : Serial) (f : wellFormed h (w .snapshots) (w .deltas) ≡ true) (u : isSession h s ≡ true)
       (g : isServed (h .start) (h .n) asked (distanceOf (h .newest) asked) ≡ true) where
     abbrev ans : Bytes
@@ -254,10 +248,6 @@ module _ (v : Version) (session keep : ℕ) (start : Serial) (r : Reached) (p : 
       go true q = data-written v (frameOf h times) (allNew (current w)) out t q
       go false q = refuse-no IllFormed (length out) t q
 
-  nothing-good : GoodSnapshot []
-  unfolding encode run.cellBytes
-  nothing-good = record { octets = λ i. omega arith; fine = faithful Snapshot .good-bytes [] (record { sorted = tt; valid = tt }) }
-
   full-home : (out : Bytes) (t : Tally) → ¬ (r .given ≡ []) → sentAt (fullIn v w times) (length out) .reply ≡ Data t →
       LeadsOn v session F times [] (current w) (written (fullIn v w times) out t)
   full-home out t n q =
@@ -265,7 +255,7 @@ module _ (v : Version) (session keep : ℕ) (start : Serial) (r : Reached) (p : 
       let e : written (fullIn v w times) out t ≡ pdus v (answer v (sessionOf session .0) (F .0) (timingOf times) (diff bytes bytes (items []) (items (current w)))) =
       full-wrote out t q ∙ bytes-are (allNew (current w))
       ∙ ap (λ (B : change.Snapshot Bytes Bytes). pdus v (answer v (sessionOf session .0) (F .0) (timingOf times) (diff bytes bytes B (items (current w))))) (sym z) in
-      rw e (leads-on v session F times F-bound [] (current w) nothing-good (good-current session keep start r p goods n))
+      rw e (leads-on v session F times F-bound [] (current w) empty-good (good-current session keep start r p goods n))
 
 -- in any version, over every run of calls from a fresh history
 pub wire : EveryWire

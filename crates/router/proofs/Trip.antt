@@ -1,14 +1,14 @@
 -- Reading what was written gives the message back.
-use Prim.Native.Nat.{ℕ, _+_, _-_, _*_, _/_, _%_, _^_, _<_, _≤_}
+use Prim.Native.Nat.{ℕ, _+_, _-_, _/_, _%_, _^_, _<_}
 use mathlib.Core.Path.{_≡_, refl, sym, ap, ap₂, _∙_}
-use mathlib.Core.List.{List, [], _∷_, _++_, append-assoc, append-nil}
-use mathlib.Core.Bool.{Bool, true, false, cond, _&&_}
-use mathlib.Core.Option.{Option, none, some}
+use mathlib.Core.List.{[], _∷_, _++_, append-assoc}
+use mathlib.Core.Bool.{true}
+use mathlib.Core.Option.{Option, some}
 use native.Mathlib.Omega.{arith}
 use native.Mathlib.Nat.{add-zero}
 use borrow.Author.Tests.{le-leb, eq-eqb}
 use lib.Dec.{leb, eqb}
-use lib.ListN.{length, getD, take, drop, length-append}
+use lib.ListN.{length, take, drop, length-append}
 use lib.Seq.{take-at, drop-at, drop-drop, getD-drop}
 use Rattle.serial.specs.declared.timing.Timing.{Timing}
 use Rattle.number.specs.Number.{two, four, twoAt, fourAt, twoBytes, fourBytes}
@@ -16,9 +16,9 @@ use Rattle.number.specs.Bytes.{part}
 use Rattle.payload.specs.Content.{Bytes}
 use Rattle.message.specs.declared.version.Version.{Version}
 use Rattle.message.specs.declared.version.Version.the-variants.{Rfc6810, Rfc8210}
-use Rattle.message.specs.Version.{versionNumber, speaks, timesTold, timesBytes, timesIn, endLength}
+use Rattle.message.specs.Version.{versionNumber, speaks, timesTold, timesBytes, endLength}
 use Rattle.message.specs.Message.{Message, serialNotify, serialQuery, cacheResponse, ipv4Prefix, ipv6Prefix, endOfData, cacheReset, routerKey, errorReport, header, pdu}
-use Rattle.message.specs.Read.{errorIn, messageIn, Front, unread, read, frontOf, front}
+use Rattle.message.specs.Read.{errorIn, messageIn, read, frontOf, front}
 use Rattle.router.specs.Send.{TimesFit, Sendable}
 
 -- ---- numbers

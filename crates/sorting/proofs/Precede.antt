@@ -1,5 +1,5 @@
 -- Message order is a total order of all offsets.
-use Prim.Native.Nat.{ℕ, _≤_, _<_}
+use Prim.Native.Nat.{ℕ}
 use mathlib.Core.Path.{_≡_, refl, sym, ap, _∙_}
 use mathlib.Core.Bool.{Bool, true, false}
 use native.Mathlib.Omega.{arith}
@@ -8,12 +8,13 @@ use borrow.Author.Tests.{ltb-true, ltb-false, lt-ltb, le-ltb}
 use Rattle.order.specs.declared.Ordering.{Ordering}
 use Rattle.order.specs.declared.Ordering.the-variants.{Less, Equal, Greater}
 use Rattle.order.specs.Comparison.{bytes, flip}
+use Rattle.order.proofs.Never.{never}
 use Rattle.order.proofs.Comparison.{strings}
 use Rattle.payload.specs.Content.{Bytes}
 use Rattle.heard.specs.Place.{keyAt, before, precedes}
 
 pub true≢false : {X : Type 0} {b : Bool} → b ≡ true → b ≡ false → X
-true≢false p q = absurd (let z : _≡_ {A = ℕ} 0 1 = cc in omega arith)
+true≢false p q = never cc
 
 module _ (s : Bytes) where
   -- no offset precedes itself
@@ -30,11 +31,11 @@ module _ (s : Bytes) where
           before o (ltb x y) ≡ false → before r (ltb y x) ≡ false → x ≡ y
       go Less r e f p q = true≢false refl p
       go Greater Less e f p q = true≢false refl q
-      go Greater Equal e f p q = absurd (let z : flip Greater ≡ Equal = sym (ap flip e) ∙ sym f in let w : _≡_ {A = ℕ} 0 1 = cc in omega arith)
-      go Greater Greater e f p q = absurd (let z : flip Greater ≡ Greater = sym (ap flip e) ∙ sym f in let w : _≡_ {A = ℕ} 0 1 = cc in omega arith)
+      go Greater Equal e f p q = let z : flip Greater ≡ Equal = sym (ap flip e) ∙ sym f in never cc
+      go Greater Greater e f p q = let z : flip Greater ≡ Greater = sym (ap flip e) ∙ sym f in never cc
       go Equal Less e f p q = true≢false refl q
       go Equal Equal e f p q = omega (arith, ltb-false x y p, ltb-false y x q)
-      go Equal Greater e f p q = absurd (let z : flip Equal ≡ Greater = sym (ap flip e) ∙ sym f in let w : _≡_ {A = ℕ} 0 1 = cc in omega arith)
+      go Equal Greater e f p q = let z : flip Equal ≡ Greater = sym (ap flip e) ∙ sym f in never cc
 
   pub precede-trans : (x y z : ℕ) → precedes s x y ≡ true → precedes s y z ≡ true → precedes s x z ≡ true
   unfolding precedes

@@ -64,7 +64,7 @@ module _ (s : Bytes) where
   unfolding insert
   insert-behind x y ys e = rw e
 
-  insert-none : (x : ℕ) → insert s x [] ≡ x ∷ []
+  pub insert-none : (x : ℕ) → insert s x [] ≡ x ∷ []
   unfolding insert
   insert-none x = refl
 

@@ -18,6 +18,7 @@ use Rattle.order.proofs.Comparison.{number-less, number-equal, number-greater}
 use Rattle.number.specs.Number.{twoAt, fourAt, wordAt}
 use Rattle.number.specs.Bytes.{part}
 use Rattle.number.proofs.Eights.{Octets, digits, two-digits, word-digits, part-bytes, part-digits, digits-decide, word-read}
+use Rattle.number.proofs.Numbers.{high-half, low-half}
 use Rattle.body.specs.declared.tag.Form.{Form}
 use Rattle.body.specs.declared.tag.Form.the-variants.{Snapshot, Delta}
 use Rattle.body.specs.Origin.{family, prefixLength, maximumLength, goodPrefix, goodOrigin}
@@ -163,25 +164,6 @@ next-below form before field b i t g j u r q =
 pub ruleset nexting = (unsure, next-below)
 
 -- ---- what they say of the bytes
-
--- the halves of a word
-module _ (s : List ℕ) (o : Octets s) (i : ℕ) where
-  four-lt : (j : ℕ) → fourAt s j < 4_294_967_296
-  four-lt j = omega (arith, o j .fits, o (j + 1) .fits, o (j + 2) .fits, o (j + 3) .fits)
-
-  high-half : wordAt s i / 4_294_967_296 ≡ fourAt s i
-  unfolding wordAt
-  high-half = plain (fourAt s i) (fourAt s (i + 4)) (four-lt (i + 4))
-    where
-      plain : (x y : ℕ) → y < 4_294_967_296 → (x * 4_294_967_296 + y) / 4_294_967_296 ≡ x
-      plain x y h = omega arith
-
-  low-half : wordAt s i % 4_294_967_296 ≡ fourAt s (i + 4)
-  unfolding wordAt
-  low-half = plain (fourAt s i) (fourAt s (i + 4)) (four-lt (i + 4))
-    where
-      plain : (x y : ℕ) → y < 4_294_967_296 → (x * 4_294_967_296 + y) % 4_294_967_296 ≡ y
-      plain x y h = omega arith
 
 -- the field at `at`
 module _ (s : List ℕ) (o : Octets s) (at : ℕ) (h : at + 26 ≤ length s) where

@@ -1,18 +1,18 @@
 -- Laws of put_item: an item's message, or that there is none.
 use Prim.Native.Nat.{ℕ, _+_, _-_, _^_, _≤_, _<_}
-use mathlib.Core.Path.{_≡_, refl, sym, ap, ap₂, _∙_}
+use mathlib.Core.Path.{_≡_, refl, sym, ap, _∙_}
 use mathlib.Core.List.{[], _∷_}
 use mathlib.Core.Bool.{Bool, true, false, not, cond}
-use mathlib.Core.Logic.{_⊎_, inl, inr}
 use native.Mathlib.Omega.{arith}
 use borrow.Author.Tests.{not-true, not-false, eq-eqb, ne-eqb, eqb-true, leb-true}
 use lib.Dec.{eqb, leb}
 use lib.ListN.{length, getD, drop}
 use lib.Seq.{sets, length-take-le}
 use lib.ListN.{length-drop}
-use Rattle.change.specs.Change.{Change, announce, withdraw, update}
+use Rattle.order.proofs.Never.{never}
+use Rattle.change.specs.Change.{Change}
 use Rattle.number.specs.Bytes.{part}
-use Rattle.body.specs.Origin.{family, goodPrefix, goodOrigin}
+use Rattle.body.specs.Origin.{goodOrigin}
 use Rattle.body.specs.RouterKey.{goodRouterKey}
 use Rattle.body.proofs.Sizes.{both}
 use Rattle.field.specs.declared.key.Key.{Key}
@@ -30,7 +30,7 @@ use Rattle.message.specs.Message.{pdu}
 use Rattle.message.specs.Record.{messageOf, flagsOf}
 use Rattle.pdu.specs.Write.{flagsPlace, Sayable, PutIs}
 use Rattle.wire.specs.declared.tally.Tally.{Tally}
-use Rattle.wire.specs.Tally.{saying, plusAll, plusPlace, skipPlace, Countable, Says, Steps, ItemIs}
+use Rattle.wire.specs.Tally.{saying, plusPlace, skipPlace, Countable, Says, ItemIs}
 use Rattle.wire.proofs.Saying.{X, tally-path, said-one, sum-one, skipped-said, unsaid-one, sum-unsaid, skipped-unsaid}
 
 -- ---- what a version speaks of
@@ -120,7 +120,7 @@ module _ (v : Version) (s : Bytes) (key : Key) (act : Act) (y : Says s key act) 
         x = itemIn s s key act
 
         clash : {A : Type 0} → speaks v (key .kind) ≡ true → A
-        clash e = absurd (let z : true ≡ false = sym e ∙ unsaid in let w : _≡_ {A = ℕ} 0 1 = cc in omega arith)
+        clash e = let z : true ≡ false = sym e ∙ unsaid in never cc
 
         done : (p a : ℕ) → cond (eqb (key .kind) 2) 1 0 ≡ p → cond (eqb (key .kind) 3) 1 0 ≡ a → p ≤ 1 → a ≤ 1 →
             r ≡ record { len = t .len; announced = t .announced; withdrawn = t .withdrawn; keys = t .keys + p; aspas = t .aspas + a } → ItemIs v x t o o r
@@ -156,7 +156,7 @@ module _ (v : Version) (s : Bytes) (key : Key) (act : Act) (y : Says s key act) 
           origin = λ h. absurd (omega arith);
           other = λ h. omega (arith, name-length, l, y .key-in .fits .ordered);
         }
-        go (anAspa e) = absurd (let z : true ≡ false = sym spoken ∙ ap (speaks v) e ∙ aspas-unspoken v in let w : _≡_ {A = ℕ} 0 1 = cc in omega arith)
+        go (anAspa e) = let z : true ≡ false = sym spoken ∙ ap (speaks v) e ∙ aspas-unspoken v in never cc
 
     module _ (flags : ℕ) (ef : flags ≡ flagsPlace act) (o o′ : Bytes) (size : ℕ) (p : PutIs (pdu v (messageOf flags (keyIn s key))) o (t .len) o′ size) where
       pub item-small : size ≤ 1_056

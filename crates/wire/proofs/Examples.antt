@@ -1,18 +1,14 @@
 -- Worked examples, by computation: what is written where there is room, and nothing where there is not.
-use Prim.Native.Nat.{ℕ}
 use mathlib.Core.Path.{_≡_, refl}
-use mathlib.Core.List.{List, [], _∷_, _++_}
+use mathlib.Core.List.{[], _∷_}
 use lib.ListN.{replicate}
-use Rattle.serial.specs.declared.Serial.{Serial}
-use Rattle.serial.specs.declared.Session.{Session}
 use Rattle.number.specs.Number.{twoBytes, fourBytes}
-use Rattle.payload.specs.Content.{Bytes}
 use Rattle.message.specs.declared.version.Version.the-variants.{Rfc6810, Rfc8210}
 use Rattle.message.specs.Message.{pdu, pdus}
 use Rattle.message.specs.Say.{spoken, ofKind}
 use Rattle.delta.specs.declared.refusal.Refusal.the-variants.{NoRoom}
 use Rattle.wire.specs.declared.frame.Frame.{Frame}
-use Rattle.wire.specs.declared.sent.Reply.the-variants.{Data, Reset, Report}
+use Rattle.wire.specs.declared.sent.Reply.the-variants.{Data, Reset}
 use Rattle.wire.specs.Answer.{aside, refusedWith, sentAt, outAt, dataPlan, resetPlan, reportPlan}
 
 -- a Cache Reset where there are nine bytes, and where there are seven

@@ -5,9 +5,8 @@ use mathlib.Core.List.{[], _∷_, _++_, append-nil}
 use native.Mathlib.Omega.{arith}
 use native.Mathlib.Nat.{zero-add}
 use borrow.Author.Tests.{le-leb, lt-leb}
-use lib.ListN.{length, drop, length-append}
+use lib.ListN.{length, length-append}
 use lib.Seq.{sets, length-sets, sets-eq}
-use Rattle.serial.specs.declared.Serial.{Serial}
 use Rattle.serial.specs.declared.Session.{Session}
 use Rattle.serial.specs.declared.timing.Timing.{Timing}
 use Rattle.serial.specs.Serial.{sessionOf}
@@ -24,8 +23,8 @@ use Rattle.past.specs.declared.state.History.{History}
 use Rattle.wire.specs.declared.tally.Tally.{Tally}
 use Rattle.wire.specs.declared.frame.Frame.{Frame}
 use Rattle.wire.specs.declared.sent.Writing.the-variants.{NoRoom, Whole}
-use Rattle.wire.specs.Answer.{frameOf, answerBytes, tallyOf}
-use Rattle.wire.specs.Tally.{saying, start, Countable}
+use Rattle.wire.specs.Answer.{frameOf, answerBytes}
+use Rattle.wire.specs.Tally.{saying, Countable}
 use Rattle.wire.specs.Put.{OpenIs, LaidIs, CloseIs, TallyIs, AnswerIs, writingOf, answerOut}
 use Rattle.wire.proofs.Saying.{D, tally-path, pdus-append}
 

@@ -1,5 +1,5 @@
 -- The messages of a delta, item by item.
-use Prim.Native.Nat.{ℕ, _+_, _-_, _≤_}
+use Prim.Native.Nat.{ℕ, _+_}
 use mathlib.Core.Path.{_≡_, refl, sym, ap, _∙_}
 use mathlib.Core.List.{List, [], _∷_, _++_, map, append-nil, append-assoc}
 use mathlib.Core.Bool.{Bool, true, false, cond, false≢true}
@@ -16,7 +16,7 @@ use Rattle.payload.specs.Count.{announces, withdraws, sumOf}
 use Rattle.message.specs.declared.version.Version.{Version}
 use Rattle.message.specs.Version.{speaks}
 use Rattle.message.specs.Message.{Message, pdu, pdus}
-use Rattle.message.specs.Say.{kindIn, spoken, ofKind, skipped, sayOf, said}
+use Rattle.message.specs.Say.{kindIn, spoken, ofKind, skipped, sayOf}
 use Rattle.wire.specs.declared.tally.Tally.{Tally}
 use Rattle.wire.specs.Tally.{saying, plusAll}
 

@@ -1,7 +1,7 @@
 -- Laws of the entries.
 use Prim.Native.Nat.{ℕ, zero, suc, _+_, _-_, _/_, _^_, _≤_, _<_}
-use mathlib.Core.Path.{_≡_, refl, sym, ap, ap₂, _∙_}
-use mathlib.Core.List.{List, [], _∷_, _++_, map}
+use mathlib.Core.Path.{_≡_, refl, sym, ap, _∙_}
+use mathlib.Core.List.{List, [], _∷_}
 use mathlib.Core.Bool.{Bool, true, false, not, cond, _&&_}
 use native.Mathlib.Omega.{arith}
 use native.Mathlib.Nat.{zero-add}
@@ -11,7 +11,6 @@ use mir.Val.{Fits}
 use lib.Dec.{leb}
 use lib.ListN.{length, getD, take, drop, length-take}
 use lib.Seq.{sets, sets-eq, take-nil}
-use Rattle.order.specs.Map.{All}
 use Rattle.serial.specs.declared.Serial.{Serial}
 use Rattle.serial.specs.declared.Session.{Session}
 use Rattle.serial.specs.declared.timing.Timing.{Timing}
@@ -29,7 +28,7 @@ use Rattle.payload.proofs.Closed.{diff-map, merge-all-map}
 use Rattle.item.proofs.Fronts.{take-bytes}
 use Rattle.message.specs.declared.version.Version.{Version}
 use Rattle.message.specs.Version.{speaks, endLength}
-use Rattle.message.specs.Message.{pdu, serialQuery, cacheReset, serialNotify}
+use Rattle.message.specs.Message.{pdu, cacheReset, serialNotify}
 use Rattle.message.specs.Say.{spoken, ofKind}
 use Rattle.delta.specs.declared.refusal.Refusal.the-variants.{NoRoom, IllFormed}
 use Rattle.past.specs.declared.state.History.{History}
@@ -48,11 +47,11 @@ use Rattle.history.proofs.Asking.{fine-true, formed-stored, formed-serial}
 use Rattle.merged.proofs.Placing.{stored-summed, last-ordered, last-few, last-most, last-bounded, last-is, left-is}
 use Rattle.wire.specs.declared.tally.Tally.{Tally}
 use Rattle.wire.specs.declared.frame.Frame.{Frame}
-use Rattle.wire.specs.declared.sent.Reply.the-variants.{Refused, Data, Reset, Report}
+use Rattle.wire.specs.declared.sent.Reply.the-variants.{Data, Reset, Report}
 use Rattle.wire.specs.declared.sent.Sent.{Sent}
 use Rattle.wire.specs.declared.sent.Writing.{Writing}
 use Rattle.wire.specs.declared.sent.Writing.the-variants as writing
-use Rattle.wire.specs.Answer.{Plan, frameOf, answerBytes, tallyOf, aside, refusedWith, reportBytes, noticeBytes, sentAt, outAt, dataPlan, resetPlan, reportPlan, changesSince, queryPlan, allNew, fullPlan, notifyPlan}
+use Rattle.wire.specs.Answer.{Plan, frameOf, answerBytes, tallyOf, aside, refusedWith, reportBytes, noticeBytes, sentAt, outAt, dataPlan, resetPlan, reportPlan, queryPlan, allNew, fullPlan, notifyPlan}
 use Rattle.wire.specs.Put.{writingOf, answerOut, sentOf, Merges, Holds, Held}
 use Rattle.wire.proofs.Saying.{D, tally-path}
 use Rattle.wire.proofs.Framing.{end-low}

@@ -1,22 +1,21 @@
 -- How many bytes an answer has at most: four times its messages' bytes are no more than five times its fields'.
 use Prim.Native.Nat.{ℕ, _+_, _*_, _/_, _≤_}
 use mathlib.Core.Path.{_≡_, refl, sym, ap, _∙_}
-use mathlib.Core.List.{[], _∷_, _++_, map}
+use mathlib.Core.List.{[], _∷_}
 use mathlib.Core.Bool.{Bool, true, false, cond}
 use native.Mathlib.Omega.{arith}
 use borrow.Author.Tests.{eq-eqb, ne-eqb}
 use lib.Dec.{eqb}
 use lib.ListN.{length, getD, drop, length-append}
-use Rattle.order.specs.Comparison.{bytes}
 use Rattle.order.specs.Map.{All}
-use Rattle.change.specs.Difference.{diff}
+use Rattle.order.proofs.Never.{never}
 use Rattle.number.specs.Bytes.{AllBytes}
 use Rattle.body.specs.declared.tag.Form.the-variants.{Snapshot, Delta}
 use Rattle.body.specs.Origin.{family}
 use Rattle.field.specs.declared.verdict.Verdict.the-variants.{Fine}
 use Rattle.field.specs.Verdict.{verdict}
 use Rattle.field.specs.Cells as run
-use Rattle.payload.specs.Content.{Bytes, valuesFor}
+use Rattle.payload.specs.Content.{Bytes}
 use Rattle.payload.specs.Valid.{Valid}
 use Rattle.payload.specs.Payload.{items, encode}
 use Rattle.payload.proofs.Faithful.{faithful}
@@ -25,8 +24,8 @@ use Rattle.item.specs.Write.{writes}
 use Rattle.message.specs.declared.version.Version.{Version}
 use Rattle.message.specs.Version.{speaks, endLength}
 use Rattle.message.specs.Message.{pdu}
-use Rattle.message.specs.Record.{messageOf, flagsOf, routerKeyOf}
-use Rattle.message.specs.Say.{kindIn, sayOf}
+use Rattle.message.specs.Record.{messageOf, flagsOf}
+use Rattle.message.specs.Say.{kindIn}
 use Rattle.pdu.specs.Write.{ipv4Of, ipv6Of}
 use Rattle.pdu.proofs.Records.{ipv4-length, ipv6-length, key-length}
 use Rattle.wire.specs.declared.frame.Frame.{Frame}
@@ -49,7 +48,7 @@ message-short v flags k (anOrigin e l) s = rw (eq-eqb (getD k 0 0) 1 e) (go (eqb
     go true = omega (arith, ipv4-length v flags (drop 1 k) l, l)
     go false = omega (arith, ipv6-length v flags (drop 1 k) l, l)
 message-short v flags k (aRouterKey e l) s = rw (ne-eqb (getD k 0 0) 1 (λ q. omega arith)) (omega (arith, key-length v flags (drop 1 k) l, l))
-message-short v flags k (anAspa e) s = absurd (let z : true ≡ false = sym s ∙ ap (speaks v) e ∙ aspas-unspoken v in let w : _≡_ {A = ℕ} 0 1 = cc in omega arith)
+message-short v flags k (anAspa e) s = let z : true ≡ false = sym s ∙ ap (speaks v) e ∙ aspas-unspoken v in never cc
 
 one-short : (v : Version) (x : X) → Valid Delta x → 4 * length (saying v (x ∷ [])) ≤ 5 * (3 + length (drop 1 (x .key)))
 one-short v x h = go (speaks v (kindIn x)) refl

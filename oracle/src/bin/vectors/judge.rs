@@ -168,6 +168,9 @@ impl Judge {
         if answer.number != 0 {
             self.refusals.insert((call.entry, answer.number, answer.argument));
         }
+        for reply in outcome.replies.iter().filter(|reply| reply.number != 0) {
+            self.refusals.insert((call.entry, reply.number, 0));
+        }
         match (call.entry, call.out()) {
             (_, Some(out)) if answer.length > 0 && answer.length == call.bytes[out].len() as u64 => {
                 self.exact.insert(call.entry);
@@ -208,6 +211,7 @@ impl Judge {
         }
         wanted.extend([(1, 1), (2, 1), (12, 1), (7, 0), (9, 0)].map(|(n, a)| (Update, n, a)));
         wanted.extend([4, 5, 6, 7].map(|n| (Query, n, 0)));
+        wanted.extend([4, 5, 6, 7, 11].map(|n| (QueryAll, n, 0)));
         wanted.extend([4, 5, 6, 7].map(|n| (QueryMessages, n, 0)));
         wanted.extend([(FullMessages, 4, 0), (FullMessages, 7, 0), (NotifyMessage, 4, 0)]);
         wanted.extend([(1, 1), (13, 2), (14, 2), (15, 2), (4, 0)].map(|(n, a)| (Judge, n, a)));
@@ -220,9 +224,9 @@ impl Judge {
                 assert!(self.pairs.contains(&(kind, e, l)), "not met: the pair {:?}", (kind, e, l));
             }
         }
-        for entry in
-            [Construct, Merge, Apply, Update, Query, QueryMessages, FullMessages, NotifyMessage, Judge]
-        {
+        let of_fields = [Construct, Merge, Apply, Update, Query, QueryAll];
+        let of_messages = [QueryMessages, FullMessages, NotifyMessage, Judge];
+        for entry in of_fields.into_iter().chain(of_messages) {
             assert!(self.exact.contains(&entry), "not met: exact room of {entry:?}");
         }
         for keep in crate::list::KEEPS.iter().copied() {

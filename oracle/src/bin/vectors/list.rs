@@ -251,6 +251,11 @@ pub fn runs() -> String {
         let universe = Universe::few(&mut rng, 3 + i % 4);
         list.messages(&mut rng, 0, &universe);
     }
+    list.part("appliance", "queries in one call to histories by construction, at times not well formed");
+    for i in 0..80 {
+        let universe = Universe::few(&mut rng, 1 + i % 4);
+        list.appliance(&mut rng, &universe, i);
+    }
     list.text
 }
 
@@ -403,6 +408,26 @@ impl List {
         self.line("full-messages", &words([version.into(), refresh, retry, expire, room]));
         let room = needed(rng, Call::notify_message(version, state, vec![]));
         self.line("notify-message", &words([version.into(), room]));
+    }
+
+    /// Every tenth list has as many queries as it may, or one more: all for serial 0, which n updates led on from.
+    fn appliance(&mut self, rng: &mut Rng, universe: &Universe, i: usize) {
+        let mut world = World::new(rng, universe);
+        let most = i % 10 == 9;
+        if most {
+            let state = &mut world.state;
+            (state.session, state.newest, state.start) = (rng.next() << 16, state.n, 0);
+        }
+        if rng.one_in(8) {
+            ill_form(rng, &mut world);
+        }
+        if self.hold(&mut world).is_none() {
+            return;
+        }
+        let count = rng.below(16);
+        let list = if most { vec![0; 6 * (384 + i / 10 % 2)] } else { world.queries(rng, count) };
+        let room = room(rng, &world.query_all(list.clone(), vec![])).len();
+        self.line("queries", &[room.to_string(), pack(&list)]);
     }
 
     fn formed(&mut self, rng: &mut Rng, universe: &Universe) {

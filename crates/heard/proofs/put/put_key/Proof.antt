@@ -6,17 +6,17 @@ use Rattle.heard.proofs.put.put_key.Tie as tie
 size-at-requires : tie.Need-size-at-requires
 size-at-requires c κs = search (routers, needs)
 
-store-byte-requires : tie.Need-store-byte-requires
-store-byte-requires c κs = search (routers, needs)
+store-requires : tie.Need-store-requires
+store-requires c κs = search (routers, needs)
 
-add-store-pair : tie.Need-add-store-pair
-add-store-pair c = search (routers, needs)
+add-store-two : tie.Need-add-store-two
+add-store-two c = search (routers, needs)
 
-sub-store-pair : tie.Need-sub-store-pair
-sub-store-pair c = search (routers, needs)
+sub-store-two : tie.Need-sub-store-two
+sub-store-two c = search (routers, needs)
 
-store-pair-requires : tie.Need-store-pair-requires
-store-pair-requires c κs = search (routers, needs)
+store-two-requires : tie.Need-store-two-requires
+store-two-requires c κs = search (routers, needs)
 
 add-t12 : tie.Need-add-t12
 add-t12 c = search (routers, needs)
@@ -44,10 +44,10 @@ put-key-spec =
     tie.close
     (tie.spec
     size-at-requires
-    store-byte-requires
-    add-store-pair
-    sub-store-pair
-    store-pair-requires
+    store-requires
+    add-store-two
+    sub-store-two
+    store-two-requires
     add-t12
     add-t11
     add-copy

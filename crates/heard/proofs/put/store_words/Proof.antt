@@ -18,11 +18,11 @@ add-store-word-2 c = search (storing, needs)
 store-word-requires-3 : tie.Need-store-word-requires-3
 store-word-requires-3 c κs = search (storing, needs)
 
-add-store-pair : tie.Need-add-store-pair
-add-store-pair c = search (storing, needs)
+add-store-two : tie.Need-add-store-two
+add-store-two c = search (storing, needs)
 
-store-pair-requires : tie.Need-store-pair-requires
-store-pair-requires c κs = search (storing, needs)
+store-two-requires : tie.Need-store-two-requires
+store-two-requires c κs = search (storing, needs)
 
 same-length : tie.Need-same-length
 same-length c = search (storing, needs)
@@ -39,7 +39,7 @@ store-words-spec =
     store-word-requires-2
     add-store-word-2
     store-word-requires-3
-    add-store-pair
-    store-pair-requires
+    add-store-two
+    store-two-requires
     same-length
     returns)
