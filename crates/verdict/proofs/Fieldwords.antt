@@ -32,7 +32,7 @@ use Rattle.field.specs.Words.{wordsAt}
 use Rattle.field.specs.If.{If}
 use Rattle.field.proofs.Fields.{field-whole}
 use Rattle.verdict.specs.declared.origins.Heads.{Heads}
-use Rattle.verdict.specs.Origins.{headsOf, hasHead, familyIn, prefixIn, maximumIn, highIn, lowIn, goodLengths, goodWords, belowWords, NextWords}
+use Rattle.verdict.specs.Origins.{headsOf, hasHead, hasStart, familyIn, prefixIn, maximumIn, highIn, lowIn, goodLengths, goodWords, belowWords, GoodField, NextWords, threeAt, Neighbours}
 
 -- a no decides nothing
 pub unsure : (P : Type 0) → If false P
@@ -47,16 +47,59 @@ module _ (form : Form) where
   pub heads-changed : form ≡ Delta → _≡_ {A = Heads} (record { one = 0x110017; other = 0x120017 }) (headsOf form)
   heads-changed e = rw e
 
-  module _ (first : ℕ) (heads : Heads) (e : heads ≡ headsOf form) where
-    pub head-one : first / 1_099_511_627_776 ≡ heads .one → true ≡ hasHead (headsOf form) first
-    unfolding hasHead
-    head-one d = rw (← e, eq-eqb (first / 1_099_511_627_776) (heads .one) d)
+  module _ (first family : ℕ) (heads : Heads) (e : heads ≡ headsOf form) where
+    pub start-one : first / 4_294_967_296 ≡ heads .one * 256 + family → true ≡ hasStart (headsOf form) family first
+    unfolding hasStart
+    start-one d = rw (← e, eq-eqb (first / 4_294_967_296) (heads .one * 256 + family) d)
 
-    pub head-other : (first / 1_099_511_627_776 ≡ heads .one → ⊥) → eqb (first / 1_099_511_627_776) (heads .other) ≡ hasHead (headsOf form) first
-    unfolding hasHead
-    head-other n = rw (← e, ne-eqb (first / 1_099_511_627_776) (heads .one) n)
+    pub start-other : (first / 4_294_967_296 ≡ heads .one * 256 + family → ⊥) → eqb (first / 4_294_967_296) (heads .other * 256 + family) ≡ hasStart (headsOf form) family first
+    unfolding hasStart
+    start-other n = rw (← e, ne-eqb (first / 4_294_967_296) (heads .one * 256 + family) n)
 
-pub ruleset heading = (heads-held, heads-changed, head-one, head-other)
+  -- the heads are numbers of three bytes
+  module _ (heads : Heads) (e : heads ≡ headsOf form) where
+    low : (heads .one < 16_777_216) × (heads .other < 16_777_216)
+    low = rw e (go form)
+      where
+        go : (f : Form) → (headsOf f .one < 16_777_216) × (headsOf f .other < 16_777_216)
+        go Snapshot = (omega arith, omega arith)
+        go Delta = (omega arith, omega arith)
+
+    pub start-one-room : heads .one * 256 < 2 ^ 64
+    start-one-room = omega (arith, low .0)
+
+    pub start-other-room : heads .other * 256 < 2 ^ 64
+    start-other-room = omega (arith, low .1)
+
+    pub start-one-fits : (family : ℕ) → family < 256 → heads .one * 256 + family < 2 ^ 64
+    start-one-fits family h = omega (arith, low .0)
+
+    pub start-other-fits : (family : ℕ) → family < 256 → heads .other * 256 + family < 2 ^ 64
+    start-other-fits family h = omega (arith, low .1)
+
+pub ruleset heading = (heads-held, heads-changed, start-one, start-other, start-one-room, start-other-room, start-one-fits, start-other-fits)
+
+-- head and family by one number
+start-says : (heads : Heads) (family first : ℕ) → family < 256 → hasStart heads family first ≡ true →
+    (hasHead heads first ≡ true) × (first / 4_294_967_296 % 256 ≡ family)
+unfolding hasStart hasHead
+start-says heads family first k e = go (eqb (first / 4_294_967_296) (heads .one * 256 + family)) refl e
+  where
+    by : (h : ℕ) → first / 4_294_967_296 ≡ h * 256 + family → (first / 1_099_511_627_776 ≡ h) × (first / 4_294_967_296 % 256 ≡ family)
+    by h d = (omega arith, omega arith)
+
+    go : (t : Bool) → eqb (first / 4_294_967_296) (heads .one * 256 + family) ≡ t → (t || eqb (first / 4_294_967_296) (heads .other * 256 + family)) ≡ true →
+        ((eqb (first / 1_099_511_627_776) (heads .one) || eqb (first / 1_099_511_627_776) (heads .other)) ≡ true) × (first / 4_294_967_296 % 256 ≡ family)
+    go true d q =
+        let z = by (heads .one) (eqb-true (first / 4_294_967_296) (heads .one * 256 + family) d) in
+        (rw (eq-eqb (first / 1_099_511_627_776) (heads .one) (z .0)), z .1)
+    go false d q =
+        let z = by (heads .other) (eqb-true (first / 4_294_967_296) (heads .other * 256 + family) q) in
+        (either (eqb (first / 1_099_511_627_776) (heads .one)) (eq-eqb (first / 1_099_511_627_776) (heads .other) (z .0)), z .1)
+      where
+        either : (t : Bool) {u : Bool} → u ≡ true → (t || u) ≡ true
+        either true q = refl
+        either false q = q
 
 -- half a word above half of another
 pub half-fits : (x y : ℕ) → Fits w64 y → Fits w64 (x % 4_294_967_296 * 4_294_967_296 + y / 4_294_967_296)
@@ -93,15 +136,20 @@ module _ (w : Words) where
     unfolding goodLengths
     six-rest k r q = rw (le-leb (prefixIn w) (maximumIn w) h, le-leb (maximumIn w) 128 k, q)
 
-  pub words-four : (r : Bool) → familyIn w ≡ 4 → If r (goodLengths 32 w ≡ true) → If r (goodWords w ≡ true)
-  unfolding goodWords
-  words-four r e i = record { holds = λ t. rw e (i .holds t) }
+  module _ (form : Form) where
+    pub field-four : (b r : Bool) → b ≡ hasStart (headsOf form) 4 (w .first) → b ≡ true → If r (goodLengths 32 w ≡ true) → If r (GoodField form w)
+    unfolding goodWords
+    field-four b r e t i =
+        let z = start-says (headsOf form) 4 (w .first) (omega arith) (sym e ∙ t) in
+        record { holds = λ q. record { head = z .0; good = rw (z .1) (i .holds q) } }
 
-  pub words-six : (r : Bool) → familyIn w ≡ 6 → r ≡ goodLengths 128 w → If r (goodWords w ≡ true)
-  unfolding goodWords
-  words-six r e q = record { holds = λ t. rw e (sym q ∙ t) }
+    pub field-six : (b r : Bool) → b ≡ hasStart (headsOf form) 6 (w .first) → not b ≡ false → r ≡ goodLengths 128 w → If r (GoodField form w)
+    unfolding goodWords
+    field-six b r e t i =
+        let z = start-says (headsOf form) 6 (w .first) (omega arith) (sym e ∙ not-false b t) in
+        record { holds = λ q. record { head = z .0; good = rw (z .1) (sym i ∙ q) } }
 
-pub ruleset judging-words = (unsure, half-fits, four-rest, six-low, six-bound, six-rest, words-four, words-six)
+pub ruleset judging-words = (unsure, half-fits, four-rest, six-low, six-bound, six-rest, field-four, field-six)
 
 module _ (p q : Words) where
   abbrev t : ℕ
@@ -110,11 +158,11 @@ module _ (p q : Words) where
   abbrev u : ℕ
   u = q .first % 1_099_511_627_776
 
-  pub below-one : t < u → true ≡ belowWords p q
+  below-one : t < u → true ≡ belowWords p q
   unfolding belowWords
   below-one h = rw (number-less t u h)
 
-  pub above-one : u < t → false ≡ belowWords p q
+  above-one : u < t → false ≡ belowWords p q
   unfolding belowWords
   above-one h = rw (number-greater t u h)
 
@@ -122,11 +170,11 @@ module _ (p q : Words) where
     one : number t u ≡ Equal
     one = number-equal t u (omega arith)
 
-    pub below-two : p .second < q .second → true ≡ belowWords p q
+    below-two : p .second < q .second → true ≡ belowWords p q
     unfolding belowWords
     below-two l = rw (one, number-less (p .second) (q .second) l)
 
-    pub above-two : q .second < p .second → false ≡ belowWords p q
+    above-two : q .second < p .second → false ≡ belowWords p q
     unfolding belowWords
     above-two l = rw (one, number-greater (p .second) (q .second) l)
 
@@ -134,15 +182,15 @@ module _ (p q : Words) where
       two : number (p .second) (q .second) ≡ Equal
       two = number-equal (p .second) (q .second) (omega arith)
 
-      pub below-three : p .third < q .third → true ≡ belowWords p q
+      below-three : p .third < q .third → true ≡ belowWords p q
       unfolding belowWords
       below-three n = rw (one, two, number-less (p .third) (q .third) n)
 
-      pub above-three : q .third < p .third → false ≡ belowWords p q
+      above-three : q .third < p .third → false ≡ belowWords p q
       unfolding belowWords
       above-three n = rw (one, two, number-greater (p .third) (q .third) n)
 
-      pub below-last : q .third ≤ p .third → p .third ≤ q .third → ltb (p .last) (q .last) ≡ belowWords p q
+      below-last : q .third ≤ p .third → p .third ≤ q .third → ltb (p .last) (q .last) ≡ belowWords p q
       unfolding belowWords
       below-last n o =
           rw (one, two, number-equal (p .third) (q .third) (omega arith)) (go (ltb (p .last) (q .last)) (ltb (q .last) (p .last)))
@@ -152,14 +200,71 @@ module _ (p q : Words) where
           go false true = refl
           go false false = refl
 
-pub ruleset lowering = (below-one, above-one, below-two, above-two, below-three, above-three, below-last)
+pub three-is : (s : List ℕ) (at x y z : ℕ) → x ≡ wordAt s at → y ≡ wordAt s (at + 8) → z ≡ wordAt s (at + 16) →
+    _≡_ {A = Words} (record { first = x; second = y; third = z; last = 0 }) (threeAt s at)
+three-is s at x y z a b c = λ i. record { first = a i; second = b i; third = c i; last = 0 }
 
-pub next-below : (form : Form) (before field : Words) (b : Bool) → b ≡ hasHead (headsOf form) (field .first) → not b ≡ false
-    → (g : Bool) → If g (goodWords field ≡ true) → not g ≡ false → (r : Bool) → r ≡ belowWords before field → If r (NextWords form before field)
-next-below form before field b i t g j u r q =
-    record {
-      holds = λ y. record { head = sym i ∙ not-false b t; good = j .holds (not-false g u); above = sym q ∙ y };
-    }
+-- the same for a field and the one before it, by their first three words
+module _ (s : List ℕ) (at : ℕ) (before field : Words) (i : Neighbours s at before field) where
+  abbrev p : Words
+  p = wordsAt s (at - 26)
+
+  abbrev q : Words
+  q = wordsAt s at
+
+  pub above-first : before .first % 1_099_511_627_776 < field .first % 1_099_511_627_776 → true ≡ belowWords p q
+  above-first h = below-one p q (rw (i .behind, i .here) at h)
+
+  pub not-first : field .first % 1_099_511_627_776 < before .first % 1_099_511_627_776 → false ≡ belowWords p q
+  not-first h = above-one p q (rw (i .behind, i .here) at h)
+
+  module _ (h : field .first % 1_099_511_627_776 ≤ before .first % 1_099_511_627_776) (k : before .first % 1_099_511_627_776 ≤ field .first % 1_099_511_627_776) where
+    h₁ : q .first % 1_099_511_627_776 ≤ p .first % 1_099_511_627_776
+    h₁ = rw (i .behind, i .here) at h
+
+    k₁ : p .first % 1_099_511_627_776 ≤ q .first % 1_099_511_627_776
+    k₁ = rw (i .behind, i .here) at k
+
+    pub above-second : before .second < field .second → true ≡ belowWords p q
+    above-second l = below-two p q h₁ k₁ (rw (i .behind, i .here) at l)
+
+    pub not-second : field .second < before .second → false ≡ belowWords p q
+    not-second l = above-two p q h₁ k₁ (rw (i .behind, i .here) at l)
+
+    module _ (l : field .second ≤ before .second) (m : before .second ≤ field .second) where
+      l₁ : q .second ≤ p .second
+      l₁ = rw (i .behind, i .here) at l
+
+      m₁ : p .second ≤ q .second
+      m₁ = rw (i .behind, i .here) at m
+
+      pub above-third : before .third < field .third → true ≡ belowWords p q
+      above-third n = below-three p q h₁ k₁ l₁ m₁ (rw (i .behind, i .here) at n)
+
+      pub not-third : field .third < before .third → false ≡ belowWords p q
+      not-third n = above-three p q h₁ k₁ l₁ m₁ (rw (i .behind, i .here) at n)
+
+      pub above-last : field .third ≤ before .third → before .third ≤ field .third → (x y : ℕ) → x ≡ twoAt s (at - 2) → y ≡ twoAt s (at + 24) → ltb x y ≡ belowWords p q
+      above-last n o x y d e =
+          let z : at - 2 ≡ at - 26 + 24 = omega (arith, i .low) in
+          rw (d, e, z) (below-last p q h₁ k₁ l₁ m₁ (rw (i .behind, i .here) at n) (rw (i .behind, i .here) at o))
+
+  pub last-low : 2 ≤ at
+  last-low = omega (arith, i .low)
+
+  pub last-room : at - 2 + 2 ≤ length s
+  last-room = omega (arith, i .low, i .room)
+
+  pub last-here : at + 24 + 2 ≤ length s
+  last-here = omega (arith, i .room)
+
+  pub next-below : (form : Form) (g : Bool) → If g (GoodField form field) → not g ≡ false → (r : Bool) → r ≡ belowWords p q → If r (NextWords form p q)
+  unfolding goodWords goodLengths
+  next-below form g j u r e =
+      let z : GoodField form (threeAt s at) = rw (i .here) at (j .holds (not-false g u)) in
+      record { holds = λ y. record { head = z .head; good = z .good; above = sym e ∙ y } }
+
+pub ruleset lowering = (above-first, not-first, above-second, not-second, above-third, not-third, above-last, last-low, last-room, last-here)
 
 pub ruleset nexting = (unsure, next-below)
 

@@ -30,7 +30,7 @@ use Rattle.field.specs.Words.{wordsAt}
 use Rattle.field.specs.If.{If}
 use Rattle.field.proofs.Fields.{whole-at, body-ordered, body-within}
 use Rattle.verdict.specs.declared.pass.Stand.{Stand}
-use Rattle.verdict.specs.Origins.{NextWords}
+use Rattle.verdict.specs.Origins.{NextWords, threeAt, Neighbours}
 use Rattle.verdict.specs.Progress.{Judged, standBehind, Reaches, Further}
 use Rattle.verdict.proofs.Fieldwords.{next-head, next-good, words-less}
 use Rattle.verdict.proofs.Judging.{judged-next}
@@ -75,8 +75,8 @@ pub record Passed (form : Form) (s : List ℕ) (start at : ℕ) (before field : 
   pub on : start ≤ at
   pub room : at + 26 ≤ length s
   pub judged : Judged form s at (keyPlace 1 (at - 23) at)
-  pub behind : before ≡ wordsAt s (at - 26)
-  pub here : field ≡ wordsAt s at
+  pub behind : before ≡ threeAt s (at - 26)
+  pub here : field ≡ threeAt s at
 
 module _ (form : Form) (s : List ℕ) (start : ℕ) (h : 26 ≤ start) (j : Judged form s start (keyPlace 1 (start - 23) start)) where
   pub begin-within : start ≤ length s
@@ -88,7 +88,7 @@ module _ (form : Form) (s : List ℕ) (start : ℕ) (h : 26 ≤ start) (j : Judg
   pub begin-end : (r : Stand) → r ≡ standBehind 1 (start - 23) start → Further form s start r
   begin-end r e = rw e (record { on = omega arith; judged = j })
 
-  pub passed-start : 26 ≤ length s - start → (v w : Words) → v ≡ wordsAt s (start - 26) → w ≡ wordsAt s start → Passed form s start start v w
+  pub passed-start : 26 ≤ length s - start → (v w : Words) → v ≡ threeAt s (start - 26) → w ≡ threeAt s start → Passed form s start start v w
   passed-start k v w d e =
       record { origin = h; on = omega arith; room = omega arith; judged = j; behind = d; here = e }
 
@@ -102,11 +102,14 @@ module _ (form : Form) (s : List ℕ) (start at : ℕ) (before field : Words) (l
   pub passed-behind : 23 ≤ at
   passed-behind = omega (arith, l .origin, l .on)
 
+  pub passed-next : Neighbours s at before field
+  passed-next = record { behind = l .behind; here = l .here; low = omega (arith, l .origin, l .on); room = l .room }
+
   module _ (h : 52 ≤ length s - at) where
     pub passed-room : at + 26 + 26 ≤ length s
     passed-room = omega arith
 
-    pub passed-more : (b : Bool) → If b (NextWords form before field) → not b ≡ false → Octets s → (w : Words) → w ≡ wordsAt s (at + 26)
+    pub passed-more : (b : Bool) → If b (NextWords form (wordsAt s (at - 26)) (wordsAt s at)) → not b ≡ false → Octets s → (w : Words) → w ≡ threeAt s (at + 26)
         → Passed form s start (at + 26) field w
     passed-more b i t o w e =
         let f = l .origin in
@@ -116,7 +119,7 @@ module _ (form : Form) (s : List ℕ) (start at : ℕ) (before field : Words) (l
         let y : at - 26 + 3 ≡ at - 23 = omega arith in
         let x : at + 26 - 23 ≡ at + 3 = omega arith in
         let v : at + 26 - 26 ≡ at = omega arith in
-        let n : NextWords form (wordsAt s (at - 26)) (wordsAt s at) = rw (l .behind, l .here) at (i .holds (not-false b t)) in
+        let n : NextWords form (wordsAt s (at - 26)) (wordsAt s at) = i .holds (not-false b t) in
         let head = next-head s o at room form (wordsAt s (at - 26)) n in
         let kind = head .kind in
         let good = origin-body form (getD s at 0) (part s (at + 3) (at + 26)) kind ∙ next-good s o at room form (wordsAt s (at - 26)) n in
@@ -132,7 +135,7 @@ module _ (form : Form) (s : List ℕ) (start at : ℕ) (before field : Words) (l
           here = e;
         }
 
-pub ruleset passing = (begin-within, begin-room, begin-end, passed-start, passed-end, passed-within, passed-behind, passed-room, passed-more)
+pub ruleset passing = (begin-within, begin-room, begin-end, passed-start, passed-end, passed-within, passed-behind, passed-next, passed-room, passed-more)
 
 -- ---- good_end
 

@@ -1,8 +1,11 @@
 -- The field of an origin, judged by its words.
-use Prim.Native.Nat.{ℕ, _+_, _*_, _/_, _%_}
+use Prim.Native.Nat.{ℕ, _+_, _-_, _*_, _/_, _%_, _≤_}
 use mathlib.Core.Path.{_≡_}
 use mathlib.Core.Bool.{Bool, true, cond, _&&_, _||_}
 use lib.Dec.{leb, eqb}
+use lib.ListN.{length}
+use mathlib.Core.List.{List}
+use Rattle.number.specs.Number.{wordAt}
 use Rattle.order.specs.Comparison.{orElse, number, isLess}
 use Rattle.body.specs.declared.tag.Form.{Form}
 use Rattle.body.specs.declared.tag.Form.the-variants.{Snapshot, Delta}
@@ -18,6 +21,10 @@ headsOf Delta = record { one = 0x110017; other = 0x120017 }
 -- the first word starts with one of the heads
 unfoldable pub hasHead : Heads → ℕ → Bool
 hasHead heads first = eqb (first / 1_099_511_627_776) (heads .one) || eqb (first / 1_099_511_627_776) (heads .other)
+
+-- and with this family behind it
+unfoldable pub hasStart : Heads → ℕ → ℕ → Bool
+hasStart heads family first = eqb (first / 4_294_967_296) (heads .one * 256 + family) || eqb (first / 4_294_967_296) (heads .other * 256 + family)
 
 -- what lies in the words
 abbrev pub familyIn : Words → ℕ
@@ -53,8 +60,24 @@ belowWords p q =
     (orElse (number (p .third) (q .third))
     (number (p .last) (q .last)))))
 
--- the field is a good origin's, and above the one before it
+-- the field is a good origin's
+pub record GoodField (form : Form) (field : Words) : Type 0 where
+  pub head : hasHead (headsOf form) (field .first) ≡ true
+  pub good : goodWords field ≡ true
+
+-- and above the one before it
 pub record NextWords (form : Form) (before field : Words) : Type 0 where
   pub head : hasHead (headsOf form) (field .first) ≡ true
   pub good : goodWords field ≡ true
   pub above : belowWords before field ≡ true
+
+-- the first three words of the field at `at`
+abbrev pub threeAt : List ℕ → ℕ → Words
+threeAt s at = record { first = wordAt s at; second = wordAt s (at + 8); third = wordAt s (at + 16); last = 0 }
+
+-- those of the field at `at` and of the one before it, each of 26 bytes
+pub record Neighbours (s : List ℕ) (at : ℕ) (before field : Words) : Type 0 where
+  pub behind : before ≡ threeAt s (at - 26)
+  pub here : field ≡ threeAt s at
+  pub low : 26 ≤ at
+  pub room : at + 26 ≤ length s

@@ -2,10 +2,15 @@
 use body::origin::clean_halves;
 use body::tag::Form;
 use field::words::Words;
+use number::pair_at;
+use number::word_at;
 ghost use mathlib.Core.Path.{_≡_};
 ghost use mathlib.Core.Bool.{true};
+ghost use Prim.Native.Nat.{_+_, _-_, _≤_, _<_};
+ghost use lib.ListN.{length};
+ghost use Rattle.field.specs.Words.{wordsAt};
 ghost use Rattle.field.specs.If.{If};
-ghost use Rattle.verdict.specs.Origins.{headsOf, hasHead, goodLengths, goodWords, belowWords, NextWords};
+ghost use Rattle.verdict.specs.Origins.{headsOf, hasStart, goodLengths, belowWords, GoodField, NextWords, threeAt, Neighbours};
 
 // The heads that an origin can have: a tag and the length 23.
 pub struct Heads {
@@ -29,16 +34,19 @@ fn heads_of(form: Form) -> Heads
     }
 }
 
-// Whether a field's first word starts with the head of an origin.
-fn head_ok(form: Form, first: usize) -> bool
-    ensures { λ r. ⌜ r ≡ hasHead (headsOf form) first ⌝ }
+// Whether a field's first word starts with the head of an origin and this family: one number of four bytes.
+fn starts(form: Form, first: usize, family: usize) -> bool
+    requires { ⌜ family < 256 ⌝ }
+    ensures { λ r. ⌜ r ≡ hasStart (headsOf form) family first ⌝ }
 {
     let heads = heads_of(form);
-    let head = first / 1099511627776;
-    if head == heads.one {
+    let one = heads.one * 256 + family;
+    let other = heads.other * 256 + family;
+    let start = first / 4294967296;
+    if start == one {
         return true;
     }
-    head == heads.other
+    start == other
 }
 
 // Whether lengths and address are those of an IPv4 origin. A no decides nothing. With a prefix of at most 32 bits
@@ -78,60 +86,71 @@ fn six_ok(w: Words) -> bool
     clean_halves(prefix, high, low)
 }
 
-// Whether the body is an origin's. A no decides nothing.
-fn words_ok(w: Words) -> bool
-    ensures { λ r. ⌜ If r (goodWords w ≡ true) ⌝ }
+// Whether a field is a good origin's. A no decides nothing.
+fn field_ok(form: Form, w: Words) -> bool
+    ensures { λ r. ⌜ If r (GoodField form w) ⌝ }
 {
-    let family = w.first / 4294967296 % 256;
-    if family == 4 {
+    if starts(form, w.first, 4) {
         return four_ok(w);
     }
-    if family != 6 {
+    if !starts(form, w.first, 6) {
         return false;
     }
     six_ok(w)
 }
 
-// Whether one body stands below another.
-fn words_below(p: Words, q: Words) -> bool
-    ensures { λ r. ⌜ r ≡ belowWords p q ⌝ }
+// The first three words of the field at `at`. Its last two bytes are read only where all three are those of another field.
+pub(crate) fn three_at(s: &[u8], at: usize) -> Words
+    requires { ⌜ at + 26 ≤ length (now s) ⌝ }
+    ensures { λ r. ⌜ r ≡ threeAt (now (s .entry)) at ⌝ }
 {
-    let t = p.first % 1099511627776;
-    let u = q.first % 1099511627776;
+    Words {
+        first: word_at(s, at),
+        second: word_at(s, at + 8),
+        third: word_at(s, at + 16),
+        last: 0,
+    }
+}
+
+// Whether the body at `at` stands above the one before it.
+fn is_above(s: &[u8], at: usize, before: Words, field: Words) -> bool
+    requires { ⌜ Neighbours (now s) at before field ⌝ }
+    ensures { λ r. ⌜ r ≡ belowWords (wordsAt (now (s .entry)) (at - 26)) (wordsAt (now (s .entry)) at) ⌝ }
+{
+    let t = before.first % 1099511627776;
+    let u = field.first % 1099511627776;
     if t < u {
         return true;
     }
     if u < t {
         return false;
     }
-    let v = p.second;
-    let w = q.second;
+    let v = before.second;
+    let w = field.second;
     if v < w {
         return true;
     }
     if w < v {
         return false;
     }
-    let x = p.third;
-    let y = q.third;
+    let x = before.third;
+    let y = field.third;
     if x < y {
         return true;
     }
     if y < x {
         return false;
     }
-    p.last < q.last
+    pair_at(s, at - 2) < pair_at(s, at + 24)
 }
 
-// Whether a field is a good origin's, and above another. A no decides nothing.
-pub(crate) fn next_words(form: Form, before: Words, field: Words) -> bool
-    ensures { λ r. ⌜ If r (NextWords form before field) ⌝ }
+// Whether the field at `at` is a good origin's, and above the one before it. A no decides nothing.
+pub(crate) fn next_words(form: Form, s: &[u8], at: usize, before: Words, field: Words) -> bool
+    requires { ⌜ Neighbours (now s) at before field ⌝ }
+    ensures { λ r. ⌜ If r (NextWords form (wordsAt (now (s .entry)) (at - 26)) (wordsAt (now (s .entry)) at)) ⌝ }
 {
-    if !head_ok(form, field.first) {
+    if !field_ok(form, field) {
         return false;
     }
-    if !words_ok(field) {
-        return false;
-    }
-    words_below(before, field)
+    is_above(s, at, before, field)
 }

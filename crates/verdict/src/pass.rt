@@ -1,5 +1,6 @@
 // Runs of good ascending fields, passed over.
 use crate::origins::next_words;
+use crate::origins::three_at;
 use body::tag::Form;
 use body::tag::body_sound;
 use body::tag::kind_of;
@@ -7,7 +8,6 @@ use field::head::Field;
 use field::head::field_at;
 use field::key::Key;
 use field::key::key_at;
-use field::words::words_at;
 use number::four_at;
 ghost use mathlib.Core.Path.{_≡_};
 ghost use Prim.Native.Nat.{_+_, _-_, _≤_};
@@ -37,16 +37,16 @@ fn pass_origins(form: Form, s: &[u8], start: usize) -> Stand
     if s.len() - start < 26 {
         return behind(1, start - 23, start);
     }
-    let mut before = words_at(s, start - 26);
-    let mut field = words_at(s, start);
+    let mut before = three_at(s, start - 26);
+    let mut field = three_at(s, start);
     let mut at = start;
     while 52 <= s.len() - at {
-        if !next_words(form, before, field) {
+        if !next_words(form, s, at, before, field) {
             return behind(1, at - 23, at);
         }
         before = field;
         at += 26;
-        field = words_at(s, at);
+        field = three_at(s, at);
     }
     behind(1, at - 23, at)
 }

@@ -23,14 +23,14 @@ behind-requires c κs = search (passing, needs)
 returns : tie.Need-returns Inv-loop μ-loop
 returns c = search (passing, needs)
 
-sub-words-at : tie.Need-sub-words-at Inv-loop μ-loop
-sub-words-at c = search (passing, needs)
+sub-three-at : tie.Need-sub-three-at Inv-loop μ-loop
+sub-three-at c = search (passing, needs)
 
-words-at-requires : tie.Need-words-at-requires Inv-loop μ-loop
-words-at-requires c κs = search (passing, needs)
+three-at-requires : tie.Need-three-at-requires Inv-loop μ-loop
+three-at-requires c κs = search (passing, needs)
 
-words-at-requires-2 : tie.Need-words-at-requires-2 Inv-loop μ-loop
-words-at-requires-2 c κs = search (passing, needs)
+three-at-requires-2 : tie.Need-three-at-requires-2 Inv-loop μ-loop
+three-at-requires-2 c κs = search (passing, needs)
 
 loop-holds : tie.Need-loop-holds Inv-loop μ-loop
 loop-holds c = search (passing, needs)
@@ -53,8 +53,8 @@ returns-2 c = search (passing, needs)
 add-at : tie.Need-add-at Inv-loop μ-loop
 add-at c = search (passing, needs)
 
-words-at-requires-3 : tie.Need-words-at-requires-3 Inv-loop μ-loop
-words-at-requires-3 c κs = search (passing, needs)
+three-at-requires-3 : tie.Need-three-at-requires-3 Inv-loop μ-loop
+three-at-requires-3 c κs = search (passing, needs)
 
 loop-less : tie.Need-loop-less Inv-loop μ-loop
 loop-less c = search (passing, needs)
@@ -81,9 +81,9 @@ pass-origins-spec =
     sub-behind
     behind-requires
     returns
-    sub-words-at
-    words-at-requires
-    words-at-requires-2
+    sub-three-at
+    three-at-requires
+    three-at-requires-2
     loop-holds
     sub-loop
     next-words-requires
@@ -91,7 +91,7 @@ pass-origins-spec =
     behind-requires-2
     returns-2
     add-at
-    words-at-requires-3
+    three-at-requires-3
     loop-less
     loop-again
     sub-behind-3
