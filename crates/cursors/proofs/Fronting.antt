@@ -1,21 +1,16 @@
 -- Laws of fronts: they are ordered as the keys are.
-use Prim.Native.Nat.{ℕ, zero, suc, _+_, _*_, _-_, _/_, _≤_, _<_}
+use Prim.Native.Nat.{ℕ, _+_, _*_, _-_, _/_, _≤_, _<_}
 use mathlib.Core.Path.{_≡_, refl, sym, ap, _∙_}
-use mathlib.Core.List.{List, [], _∷_}
+use mathlib.Core.List.{[], _∷_}
 use mathlib.Core.Bool.{Bool, true, false, cond}
 use native.Mathlib.Omega.{arith}
-use native.Mathlib.Decide.{decLe}
 use mir.Val.{Fits}
 use mir.Syntax.{w8}
 use lib.Dec.{eqb}
-use lib.ListN.{length, getD, take, drop, length-take, List·getD-eq-default}
+use lib.ListN.{length, getD, take, drop, length-take}
 use lib.Seq.{getD-take, getD-drop, drop-drop}
-use Rattle.order.specs.declared.Ordering.{Ordering}
-use Rattle.order.specs.declared.Ordering.the-variants.{Less, Equal, Greater}
-use Rattle.order.specs.Comparison.{flip, orElse, number, bytes}
-use Rattle.order.proofs.Comparison.{strings, less-number, equal-number, less≢equal, less≢greater}
 use Rattle.number.specs.Number.{wordAt}
-use Rattle.number.specs.Bytes.{part, AllBytes}
+use Rattle.number.specs.Bytes.{part}
 use Rattle.body.specs.declared.tag.Form.the-variants.{Delta}
 use Rattle.body.specs.Tag.{kindOf}
 use Rattle.body.proofs.Digits.{delta-kind}

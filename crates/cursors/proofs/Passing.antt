@@ -1,35 +1,29 @@
 -- Laws of what one run has below all others.
-use Prim.Native.Nat.{ℕ, zero, suc, _+_, _*_, _-_, _≤_, _<_}
+use Prim.Native.Nat.{ℕ, zero, suc, _+_, _-_, _≤_, _<_}
 use mathlib.Core.Path.{_≡_, refl, sym, ap, ap₂, _∙_}
-use mathlib.Core.List.{List, [], _∷_, _++_, foldl, append-assoc}
+use mathlib.Core.List.{List, [], _∷_, _++_, foldl}
 use native.Mathlib.Omega.{arith}
 use native.Mathlib.Decide.{ℕ-discrete}
-use mir.Syntax.{w8}
-use mir.Val.{Fits}
-use lib.ListN.{length, getD, set, take, drop, length-append, length-set, length-take}
-use lib.Seq.{getD-set-same, getD-set-other, length-take-le}
+use lib.ListN.{length, getD, set, take, length-append, length-set, length-take}
+use lib.Seq.{getD-set-same, getD-set-other}
 use Rattle.order.specs.Comparison.{bytes}
 use Rattle.order.specs.Map.{Item, All, Below, Sorted}
 use Rattle.order.proofs.Comparison.{strings}
 use Rattle.order.proofs.Walk.{walk-sorted, walk-below}
 use Rattle.change.specs.Change.{Change}
 use Rattle.change.specs.Merge.{mergeAt, merge}
-use Rattle.number.specs.Bytes.{part}
-use Rattle.body.specs.declared.tag.Form.the-variants.{Delta}
 use Rattle.field.specs.Cells.{cellBytes}
 use Rattle.payload.specs.Content.{Bytes}
 use Rattle.item.specs.Front.{frontKey, top}
-use Rattle.item.specs.Write.{writes}
 use Rattle.item.proofs.Fronts.{front-less}
 use Rattle.item.specs.declared.reading.Reading.the-variants.{Changes}
 use Rattle.item.specs.Reading.{Ready}
 use Rattle.turn.specs.declared.stretch.Stretch.{Stretch}
 use Rattle.turn.specs.Stretch.{Stretches}
 use Rattle.walk.proofs.Walking.{walk-left-first, walk-right-first}
-use Rattle.cursors.specs.declared.lone.Lone.{Lone}
-use Rattle.cursors.specs.Cursor.{D, run, runsN, runs, leftOf, itemsIn, itemsLeft, Stands, Within, Walks}
+use Rattle.cursors.specs.Cursor.{D, run, runsN, runs, itemsIn, Stands, Walks}
 use Rattle.cursors.specs.Front.{frontOf, HeadBytes, Fronts, Lowest, Blocks, Finds, Settled, Fronted, lined, line, Advances, Advanced}
-use Rattle.cursors.specs.Lone.{Sought, sought, Leads, Passes, LoneIs, passes}
+use Rattle.cursors.specs.Lone.{Sought, sought, Leads, LoneIs, passes}
 use Rattle.cursors.proofs.Standing.{part-take, stands-long}
 use Rattle.cursors.proofs.Eights.{all-under}
 

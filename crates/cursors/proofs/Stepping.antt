@@ -16,6 +16,7 @@ use Rattle.order.specs.Many.{lower, lowerOf, least, past, pastOf}
 use Rattle.order.proofs.Comparison.{strings}
 use Rattle.order.proofs.Map.{none≢some}
 use Rattle.order.proofs.Many.{pasts-sorted, least-step, least-none}
+use Rattle.order.proofs.Never.{never}
 use Rattle.change.specs.Change.{Change}
 use Rattle.change.specs.Merge.{mergeAt}
 use Rattle.payload.specs.Content.{Bytes}
@@ -79,7 +80,7 @@ least-falls k ds e = ⊎-elim (λ h. absurd (none≢some {o = none} refl h)) (λ
 -- ---- next: what is left is what there was
 
 nothing≢at : (p e first last : ℕ) (same : Bool) → found.Nothing ≡ found.At p e first last same → ⊥
-nothing≢at p e first last same q = let z : _≡_ {A = ℕ} 0 1 = cc in omega arith
+nothing≢at p e first last same q = never cc
 
 pub record Stepping (s : Bytes) (at₀ ends : List ℕ) (f₀ : List ℕ) (from n : ℕ) (at f : List ℕ) : Type 0 where
   pub fronted : Fronted s at ends from n f

@@ -1,10 +1,10 @@
 -- The front of a run: the first eight bytes of its first key as one number; and 64 fronts with the lowest of each eight.
-use Prim.Native.Nat.{ℕ, zero, suc, _+_, _*_, _≤_, _<_}
+use Prim.Native.Nat.{ℕ, _+_, _*_, _≤_, _<_}
 use mathlib.Core.Path.{_≡_}
 use mathlib.Core.List.{List, [], _∷_}
 use mathlib.Core.Option.{none, some}
 use mathlib.Core.Bool.{Bool, true}
-use lib.ListN.{length, getD, set, drop}
+use lib.ListN.{length, getD, set}
 use Rattle.order.specs.Comparison.{bytes}
 use Rattle.order.specs.Many.{lowerOf, least, first, past}
 use Rattle.change.specs.Merge.{mergeAt}

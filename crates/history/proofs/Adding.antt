@@ -8,8 +8,9 @@ use lib.Dec.{leb, eqb}
 use lib.ListN.{length, take, drop, length-take, length-drop, length-append, length-map}
 use lib.Seq.{take-take, take-add, drop-drop}
 use borrow.Author.Tests.{leb-true}
+use Rattle.order.proofs.Never.{never}
+use Rattle.body.proofs.Sizes.{both}
 use Rattle.body.specs.declared.tag.Form.the-variants.{Snapshot, Delta}
-use Rattle.field.specs.declared.verdict.Verdict.{Verdict}
 use Rattle.field.specs.declared.verdict.Verdict.the-variants as verdict
 use Rattle.field.specs.Verdict.{verdict}
 use Rattle.payload.specs.Content.{Bytes}
@@ -21,7 +22,7 @@ use Rattle.item.proofs.Places.{drop-take}
 use Rattle.past.specs.declared.state.History.{History}
 use Rattle.past.specs.Store.{total, cuts, joined, heldSnapshot, heldLengths, heldDeltas, lengthsOf}
 use Rattle.payload.specs.Written.{writtenOver}
-use Rattle.past.specs.WellFormed.{isFine, isGood, every, goodKeep, inRange, goodSerial, goodStart, wellFormed}
+use Rattle.past.specs.WellFormed.{isGood, every, goodKeep, inRange, goodSerial, goodStart, wellFormed}
 use Rattle.history.specs.Check.{goodState, goodSnapshot, goodRuns, goodDeltas}
 use Rattle.past.specs.Update.{pushed, deltasWith, nextState}
 use Rattle.merged.specs.Place.{between}
@@ -31,19 +32,10 @@ use Rattle.past.proofs.Lists.{map-push}
 use Rattle.past.proofs.Store.{joined-length}
 use Rattle.past.proofs.Steps.{admitted-fine}
 use Rattle.history.proofs.Forming.{formed-parts}
+use Rattle.history.proofs.Asking.{fine-true}
 use Rattle.history.proofs.Pushing.{drops-few}
 
 -- ---- what a well-formed history and an admitted snapshot tell
-
-both : (a b : Bool) → (a && b) ≡ true → (a ≡ true) × (b ≡ true)
-both true b e = (refl, e)
-both false b e = absurd (let z : _≡_ {A = ℕ} 0 1 = cc in omega arith)
-
-fine : (v : Verdict) → isFine v ≡ true → v ≡ verdict.Fine
-fine verdict.Fine e = refl
-fine (verdict.Bad at) e = absurd (let z : _≡_ {A = ℕ} 0 1 = cc in omega arith)
-fine (verdict.Senseless at) e = absurd (let z : _≡_ {A = ℕ} 0 1 = cc in omega arith)
-fine (verdict.NotAbove at) e = absurd (let z : _≡_ {A = ℕ} 0 1 = cc in omega arith)
 
 pub record Formed (h : History) (snapshots deltas : Bytes) : Type 0 where
   pub ranged : Ranged h
@@ -75,7 +67,7 @@ formed-is h s d e =
       ranged = state-ranged h (q .0);
       short = leb-true (length s) (limit Snapshot) (r .0);
       within = leb-true (h .snapshot) (length s) (t .0);
-      good = fine (verdict Snapshot (heldSnapshot h s)) (t .1);
+      good = fine-true (verdict Snapshot (heldSnapshot h s)) (t .1);
       limited = leb-true (length d) (limit Delta) (u .0);
       room = leb-true (total (heldLengths h)) (length d) (v .0);
     }
@@ -85,7 +77,7 @@ admitted-short s = go (leb (length s) (limit Snapshot)) refl
   where
     go : (t : Bool) → leb (length s) (limit Snapshot) ≡ t → andThen (cond t Yes (No (TooLong 1))) (verdictAdmitted 1 (verdict Snapshot s)) ≡ Yes → length s ≤ limit Snapshot
     go true q e = leb-true (length s) (limit Snapshot) q
-    go false q e = absurd (let z : _≡_ {A = ℕ} 0 1 = cc in omega arith)
+    go false q e = never cc
 
 pub renews-compares : (h : History) (new s d : Bytes) → Renews h new s d → Compares h new s
 renews-compares h new s d r =

@@ -8,6 +8,8 @@ use lib.Dec.{leb, eqb}
 use lib.ListN.{length, take}
 use borrow.Author.Tests.{not-true, not-false, leb-true, le-leb, lt-leb, eqb-true, eq-eqb, ne-eqb}
 use Rattle.order.specs.Map.{All}
+use Rattle.order.proofs.Never.{never}
+use Rattle.body.proofs.Sizes.{both}
 use Rattle.serial.specs.declared.Serial.{Serial}
 use Rattle.serial.specs.declared.Session.{Session}
 use Rattle.serial.specs.Serial.{distanceOf, sessionOf}
@@ -114,15 +116,11 @@ pub ruleset serving = (serve-stored, serve-written, serve-long, serve-bytes)
 
 -- ---- what an admitted query may rely on
 
-both : (a b : Bool) → (a && b) ≡ true → (a ≡ true) × (b ≡ true)
-both true b e = (refl, e)
-both false b e = absurd (let z : _≡_ {A = ℕ} 0 1 = cc in omega arith)
-
 pub fine-true : (v : Verdict) → isFine v ≡ true → v ≡ verdict.Fine
 fine-true verdict.Fine e = refl
-fine-true (verdict.Bad at) e = absurd (let z : _≡_ {A = ℕ} 0 1 = cc in omega arith)
-fine-true (verdict.Senseless at) e = absurd (let z : _≡_ {A = ℕ} 0 1 = cc in omega arith)
-fine-true (verdict.NotAbove at) e = absurd (let z : _≡_ {A = ℕ} 0 1 = cc in omega arith)
+fine-true (verdict.Bad at) e = never cc
+fine-true (verdict.Senseless at) e = never cc
+fine-true (verdict.NotAbove at) e = never cc
 
 every-true : (ds : List Bytes) → every (isGood Delta) ds ≡ true → All IsFine ds
 every-true [] e = tt
@@ -172,9 +170,9 @@ module _ (h : History) (snapshots deltas : Bytes) (e : wellFormed h snapshots de
 -- the tests of an admitted query
 tests-true : (t u v : Bool) → andThen (passes t IllFormed) (andThen (passes u OtherSession) (passes v NotServed)) ≡ Yes → (t ≡ true) × (v ≡ true)
 tests-true true true true e = (refl, refl)
-tests-true true true false e = absurd (let z : _≡_ {A = ℕ} 0 1 = cc in omega arith)
-tests-true true false v e = absurd (let z : _≡_ {A = ℕ} 0 1 = cc in omega arith)
-tests-true false u v e = absurd (let z : _≡_ {A = ℕ} 0 1 = cc in omega arith)
+tests-true true true false e = never cc
+tests-true true false v e = never cc
+tests-true false u v e = never cc
 
 module _ (h : History) (session : Session) (asked : Serial) (snapshots deltas : Bytes) (x : Admitted) (e : x ≡ queryAdmitted h session asked snapshots deltas) where
   module _ (r : Refusal) (q : x ≡ No r) where

@@ -8,6 +8,7 @@ use lib.Dec.{leb, eqb}
 use lib.ListN.{length, getD, take, drop, length-drop}
 use lib.Seq.{drop-cons, drop-drop}
 use borrow.Author.Tests.{not-true, not-false, leb-true, leb-false, le-leb, lt-leb, ne-eqb}
+use Rattle.order.proofs.Never.{never}
 use Rattle.body.specs.declared.tag.Form.{Form}
 use Rattle.body.specs.declared.tag.Form.the-variants.{Snapshot, Delta}
 use Rattle.field.specs.declared.verdict.Verdict.{Verdict}
@@ -219,9 +220,9 @@ state-few h = go (leb 1 (h .keep)) (leb (h .keep) 64) refl (leb (h .n) (h .keep)
   where
     go : (a b : Bool) → leb (h .keep) 64 ≡ b → (c : Bool) → leb (h .n) (h .keep) ≡ c → (a && b && c && goodSerial h && goodStart h) ≡ true → h .n ≤ 64
     go true true p true q e = omega (arith, leb-true (h .keep) 64 p, leb-true (h .n) (h .keep) q)
-    go false b p c q e = absurd (let z : _≡_ {A = ℕ} 0 1 = cc in omega arith)
-    go true false p c q e = absurd (let z : _≡_ {A = ℕ} 0 1 = cc in omega arith)
-    go true true p false q e = absurd (let z : _≡_ {A = ℕ} 0 1 = cc in omega arith)
+    go false b p c q e = never cc
+    go true false p c q e = never cc
+    go true true p false q e = never cc
 
 module _ (h : History) (s d : Bytes) (t : Bool) (e : t ≡ goodState h) where
   pub formed-state : not t ≡ true → false ≡ wellFormed h s d

@@ -7,6 +7,7 @@ use native.Mathlib.Omega.{arith}
 use lib.Dec.{leb, eqb}
 use lib.ListN.{length, take, drop, replicate}
 use borrow.Author.Tests.{not-true, not-false, le-leb, lt-leb, ne-eqb}
+use Rattle.order.proofs.Never.{never}
 use Rattle.body.specs.declared.tag.Form.the-variants.{Snapshot, Delta}
 use Rattle.payload.specs.Content.{Bytes}
 use Rattle.payload.specs.Limit.{limit}
@@ -262,7 +263,7 @@ admitted-both h new s d = go (wellFormed h s d) refl
   where
     go : (t : Bool) → wellFormed h s d ≡ t → cond t (admitOneOf Snapshot new) (No IllFormed) ≡ Yes → (wellFormed h s d ≡ true) × (admitOneOf Snapshot new ≡ Yes)
     go true q e = (q, e)
-    go false q e = absurd (let z : _≡_ {A = ℕ} 0 1 = cc in omega arith)
+    go false q e = never cc
 
 refused-step : (h : History) (new s d : Bytes) (r : Refusal) → updateAdmitted h new s d ≡ No r → stepFor h new s d ≡ refuse r
 unfolding updateAdmitted stepFor

@@ -6,8 +6,6 @@ use serial::next;
 ghost use mathlib.Core.Path.{_≡_};
 ghost use Prim.Native.Nat.{_-_, _^_, _<_, _≤_};
 ghost use lib.ListN.{length};
-ghost use Rattle.past.specs.Store.{total};
-ghost use Rattle.merged.specs.Place.{between};
 ghost use Rattle.history.specs.Push.{dropsOf, keptOf, lengthsWith, Ranged, Grows};
 
 // The deltas that stay once one is added.

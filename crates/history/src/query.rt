@@ -2,7 +2,6 @@
 use crate::well_formed::well_formed;
 use delta::admit::Admitted;
 use delta::refusal::Refusal;
-use item::sink::Counts;
 use merged::last::merged_last;
 use merged::lengths::wide;
 use past::query::Answer;

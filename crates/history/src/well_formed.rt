@@ -6,7 +6,7 @@ use merged::lengths::wide;
 use past::state::History;
 use verdict::check::check;
 ghost use mathlib.Core.Path.{_≡_};
-ghost use Prim.Native.Nat.{_^_, _<_, _≤_};
+ghost use Prim.Native.Nat.{_≤_};
 ghost use lib.ListN.{take};
 ghost use Rattle.past.specs.WellFormed.{isGood, goodKeep, inRange, goodSerial, goodStart, wellFormed};
 ghost use Rattle.history.specs.Check.{goodState, goodSnapshot, goodRuns, goodDeltas};

@@ -1,15 +1,15 @@
 -- Laws of writing the merge of many runs.
-use Prim.Native.Nat.{ℕ, _+_, _*_, _-_, _^_, _≤_, _<_}
+use Prim.Native.Nat.{ℕ, _+_, _-_, _^_, _≤_, _<_}
 use mathlib.Core.Path.{_≡_, refl, sym, ap, _∙_}
 use mathlib.Core.List.{List, [], _∷_, _++_, append-assoc}
 use native.Mathlib.Omega.{arith}
 use lib.ListN.{length, length-take, length-drop}
 use lib.Seq.{sets, length-sets}
+use Rattle.order.proofs.Never.{never}
 use Rattle.number.specs.Bytes.{part}
 use Rattle.body.specs.declared.tag.Form.the-variants.{Delta}
 use Rattle.field.specs.declared.key.Key.{Key}
 use Rattle.payload.specs.Content.{Bytes}
-use Rattle.payload.specs.Limit.{limit}
 use Rattle.item.specs.declared.place.Act.{Act}
 use Rattle.item.specs.declared.sink.Counts.{Counts}
 use Rattle.item.specs.Place.{partIn, changeIn, itemIn, ActFits, KeyIn, Lies}
@@ -24,7 +24,7 @@ use Rattle.cursors.specs.Front.{Fronted, line}
 use Rattle.cursors.specs.Lone.{LoneIs, passes}
 use Rattle.merged.specs.declared.put.Put.{Put}
 use Rattle.merged.specs.declared.put.Put.the-variants.{End, On}
-use Rattle.merged.specs.Put.{Roomy, Puts, Wrote, PutSome, put-some, PutNext, put-end, put-on}
+use Rattle.merged.specs.Put.{Roomy, Puts, PutSome, put-some, PutNext, put-end, put-on}
 use Rattle.merged.proofs.Sizing.{sure-fits, sure-bytes}
 
 -- ---- put_lone and put_next
@@ -126,7 +126,7 @@ pub ruleset steps = (puts-walks, puts-fronted, puts-room, lone-lies, lone-ordere
 -- ---- put_step
 
 end≢on : (c : Counts) → End ≡ On c → ⊥
-end≢on c q = let z : _≡_ {A = ℕ} 0 1 = cc in omega arith
+end≢on c q = never cc
 
 module _ (s : Bytes) (at at₁ ends : List ℕ) (from n : ℕ) (c : Counts) (o o₁ : Bytes) (r : Put) (x : PutNext s at at₁ ends from n c o o₁ r) where
   pub step-end : r ≡ End → PutNext s at at₁ ends from n c o o₁ End

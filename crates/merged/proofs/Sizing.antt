@@ -1,10 +1,9 @@
 -- The merge of deltas is never longer than all of them together.
-use Prim.Native.Nat.{ℕ, _+_, _≤_, _<_}
-use mathlib.Core.Path.{_≡_, refl, ap, _∙_}
+use Prim.Native.Nat.{ℕ, _+_, _≤_}
+use mathlib.Core.Path.{_≡_, refl, ap}
 use mathlib.Core.List.{List, [], _∷_, map, foldl}
 use mathlib.Core.Option.{Option, none, some}
 use native.Mathlib.Omega.{arith}
-use borrow.Author.Tests.{le-leb}
 use lib.ListN.{length, take, drop, length-append, length-take}
 use lib.Seq.{sets}
 use Rattle.order.specs.declared.Ordering.{Ordering}
@@ -32,10 +31,6 @@ use Rattle.merged.specs.Place.{IsFine}
 use Rattle.item.proofs.Fronts.{drop-bytes, take-bytes}
 
 -- ---- one key
-
-values : Option (Change Bytes) → ℕ
-values none = 0
-values (some c) = length (valuesFor c)
 
 abbrev emitted : Bytes → Option (Change Bytes) → ℕ
 emitted k none = 0

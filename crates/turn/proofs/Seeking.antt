@@ -6,7 +6,8 @@ use native.Mathlib.Omega.{arith}
 use mir.Syntax.{w8, w64}
 use mir.Val.{Fits}
 use lib.ListN.{length, getD, drop, length-append, length-drop}
-use Rattle.order.specs.Map.{Item, All}
+use Rattle.order.specs.Map.{Item}
+use Rattle.order.proofs.Map.{all-append}
 use Rattle.change.specs.Change.{Change}
 use Rattle.change.specs.Difference as change
 use Rattle.number.specs.Number.{twoAt, wordAt}
@@ -77,10 +78,6 @@ pub ruleset sizes = (size-origin)
 
 pub seek-start : (s : Bytes) (from bound : ℕ) → Ready Announced s from → Seeks s from bound from 0
 seek-start s from bound r = record { passed = []; split = refl; low = tt; number = refl; on = omega arith; few-on = omega arith; ready = r }
-
-pub all-append : {A : Type 0} (P : A → Type 0) (a b : List A) → All P a → All P b → All P (a ++ b)
-all-append P [] b x y = y
-all-append P (z ∷ a) b x y = (x .0, all-append P a b (x .1) y)
 
 module _ (s : Bytes) (from bound at count : ℕ) (l : Seeks s from bound at count) where
   pub seek-ready : Ready Announced s at

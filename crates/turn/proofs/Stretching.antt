@@ -1,20 +1,20 @@
 -- Laws of the run of a delta's items below a bound.
 use Prim.Native.Nat.{ℕ, _+_, _*_, _-_, _/_, _%_, _^_, _<_, _≤_}
 use mathlib.Core.Path.{_≡_, refl, sym, ap, subst, _∙_}
-use mathlib.Core.List.{List, [], _∷_, _++_, append-assoc}
+use mathlib.Core.List.{[], _∷_, _++_, append-assoc}
 use mathlib.Core.Bool.{Bool, true, false, cond}
 use native.Mathlib.Omega.{arith}
 use mir.Syntax.{w8, w64}
 use mir.Val.{Fits}
-use lib.Dec.{eqb}
 use borrow.Author.Tests.{eq-eqb, ne-eqb}
 use lib.ListN.{length, getD, take, drop, length-append, length-drop}
 use lib.Seq.{take-at}
 use Rattle.order.specs.Map.{Item, All}
+use Rattle.order.proofs.Map.{all-append}
 use Rattle.change.specs.Change.{Change, announce, withdraw, update}
 use Rattle.change.specs.Difference as change
 use Rattle.number.specs.Number.{twoAt, wordAt}
-use Rattle.number.specs.Bytes.{part, AllBytes}
+use Rattle.number.specs.Bytes.{AllBytes}
 use Rattle.body.specs.declared.tag.Form.the-variants.{Delta}
 use Rattle.body.specs.Tag.{kindOf, tagOf, goodBody}
 use Rattle.body.proofs.Digits.{delta-kind}
@@ -34,7 +34,6 @@ use Rattle.item.specs.Write.{fieldAs, writes}
 use Rattle.item.proofs.Fronts.{drop-bytes, take-bytes}
 use Rattle.item.proofs.Heres.{here, cell, next, said, behind, within, lies, front-is}
 use Rattle.turn.specs.Stretch.{frontAt, goneOf, Stretches}
-use Rattle.turn.proofs.Seeking.{all-append}
 
 abbrev D : Type 0
 D = change.Delta Bytes Bytes

@@ -1,13 +1,12 @@
 -- How long a merge is: no longer than both runs together.
-use Prim.Native.Nat.{ℕ, suc, _+_, _^_, _<_, _≤_}
+use Prim.Native.Nat.{ℕ, _+_, _^_, _<_, _≤_}
 use mathlib.Core.Path.{_≡_, refl, sym, ap, _∙_}
-use mathlib.Core.List.{List, [], _∷_, _++_}
+use mathlib.Core.List.{[], _∷_, _++_}
 use mathlib.Core.Option.{Option, none, some}
-use native.Mathlib.Decide.{decLt}
 use native.Mathlib.Omega.{arith}
 use mir.Syntax.{w8}
 use mir.Val.{Fits}
-use lib.ListN.{length, getD, drop, length-append, List·getD-eq-default, List·getD-append}
+use lib.ListN.{length, getD, drop, length-append}
 use lib.Seq.{sets}
 use Rattle.order.specs.declared.Ordering.{Ordering}
 use Rattle.order.specs.declared.Ordering.the-variants.{Less, Equal, Greater}
@@ -16,14 +15,14 @@ use Rattle.order.specs.Map.{Item}
 use Rattle.order.specs.Walk.{emit}
 use Rattle.order.proofs.Comparison.{strings}
 use Rattle.order.proofs.Walk.{walk-nil, walk-left, walk-right, walk-less, walk-equal, walk-greater}
+use Rattle.order.proofs.Never.{never}
 use Rattle.change.specs.Change.{Change, announce, withdraw, update, unlessEqual}
 use Rattle.change.specs.Difference as change
 use Rattle.change.specs.Merge.{table, mergeAt, merge}
 use Rattle.number.specs.Bytes.{AllBytes}
 use Rattle.body.specs.declared.tag.Form.{Form}
-use Rattle.field.specs.Cells.{Cell, cells, field, cellBytes}
+use Rattle.field.specs.Cells.{Cell, field, cellBytes}
 use Rattle.field.specs.Run.{Run, done, more}
-use Rattle.field.specs.Places.{GoodAt}
 use Rattle.field.proofs.Fronts.{shorter}
 use Rattle.field.proofs.Encode.{field-front, rest-bytes}
 use Rattle.field.proofs.Run.{cells-end, cells-more}
@@ -71,7 +70,7 @@ module _ (form : Form) where
 -- a value put in place of another
 replace-width : (k p n : Bytes) (m : ℕ) → width k (update p n) ≤ m → (o : Ordering) (c : Change Bytes) → unlessEqual o (update p n) ≡ some c → width k c ≤ m
 replace-width k p n m h Less c e = let z : update p n ≡ c = cc in rw (← z) h
-replace-width k p n m h Equal c e = absurd (let z : _≡_ {A = ℕ} 0 1 = cc in omega arith)
+replace-width k p n m h Equal c e = never cc
 replace-width k p n m h Greater c e = let z : update p n ≡ c = cc in rw (← z) h
 
 update-length : (p n : Bytes) → length (valuesFor (update p n)) ≡ 2 + (length p + length n)
@@ -81,7 +80,7 @@ update-length p n = omega (arith, length-append p n)
 table-width : (k : Bytes) (x y c : Change Bytes) → table bytes x y ≡ some c → width k c ≤ width k x + width k y
 unfolding width
 table-width k (announce m) (announce n) c e = let z : announce n ≡ c = cc in rw (← z) (omega arith)
-table-width k (announce m) (withdraw q) c e = absurd (let z : _≡_ {A = ℕ} 0 1 = cc in omega arith)
+table-width k (announce m) (withdraw q) c e = never cc
 table-width k (announce m) (update q n) c e = let z : announce n ≡ c = cc in rw (← z) (omega (arith, update-length q n))
 table-width k (withdraw p) (announce n) c e = replace-width k p n _ (omega (arith, update-length p n)) (bytes p n) c e
 table-width k (withdraw p) (withdraw q) c e = let z : withdraw p ≡ c = cc in rw (← z) (omega arith)

@@ -28,7 +28,6 @@ use Rattle.body.proofs.Sizes.{origin-size}
 use Rattle.field.specs.Key.{keyOf}
 use Rattle.field.specs.Cells.{Cell, field, cellBytes}
 use Rattle.field.specs.If.{If}
-use Rattle.field.specs.Places.{GoodAt}
 use Rattle.field.proofs.Common.{Found}
 use Rattle.field.proofs.Encode.{field-front}
 use Rattle.payload.specs.Content.{Bytes, entryOf}
@@ -46,7 +45,7 @@ use Rattle.walk.specs.declared.origins.OriginStep.{OriginStep}
 use Rattle.walk.specs.declared.origins.OriginStep.the-variants.{Other, On}
 use Rattle.turn.specs.Left.{leftOf}
 use Rattle.walk.specs.Walk.{Stands, Wrote}
-use Rattle.walk.specs.Origins.{originOf, OriginAt, OriginCountable, bothOrigins, BothAt, Turns, OriginStepMeans, OriginStepIs}
+use Rattle.walk.specs.Origins.{originOf, OriginAt, OriginCountable, bothOrigins, BothAt, Turns, OriginStepIs}
 use Rattle.item.proofs.Heres.{here, cell, next, reads, said, behind, within, lies}
 use Rattle.walk.proofs.Walking.{plus-nil, writes-nil, then}
 

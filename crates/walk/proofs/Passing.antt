@@ -20,9 +20,8 @@ use Rattle.body.specs.declared.tag.Form.the-variants.{Snapshot, Delta}
 use Rattle.body.specs.Tag.{goodBody}
 use Rattle.body.proofs.Digits.{snapshot-kind}
 use Rattle.field.specs.Key.{keyOf}
-use Rattle.field.specs.Cells.{Cell, cells, field, cellBytes}
+use Rattle.field.specs.Cells.{Cell, field, cellBytes}
 use Rattle.field.specs.Run.{Run, done, more}
-use Rattle.field.specs.Places.{GoodAt}
 use Rattle.field.proofs.Encode.{field-front, rest-bytes}
 use Rattle.field.proofs.Run.{cells-end, cells-more}
 use Rattle.payload.specs.Content.{Bytes}
