@@ -15,6 +15,7 @@ use Rattle.change.specs.Change.{Change, announce, withdraw, update}
 use Rattle.change.specs.Difference as change
 use Rattle.number.specs.Number.{twoAt, wordAt}
 use Rattle.number.specs.Bytes.{AllBytes}
+use Rattle.body.specs.declared.tag.Form.{Form}
 use Rattle.body.specs.declared.tag.Form.the-variants.{Delta}
 use Rattle.body.specs.Tag.{kindOf, tagOf, goodBody}
 use Rattle.body.proofs.Digits.{delta-kind}
@@ -93,9 +94,14 @@ one-counts (announce n) = refl
 one-counts (withdraw p) = refl
 one-counts (update p n) = refl
 
-sum-one : (g : Change Bytes → ℕ) (d : D) (x : Item Bytes (Change Bytes)) → sumOf g (d ++ (x ∷ [])) ≡ sumOf g d + g (x .val)
-sum-one g [] x = omega arith
-sum-one g (y ∷ d) x = omega (arith, sum-one g d x)
+pub writes-append : (form : Form) (e f : D) → writes form (e ++ f) ≡ writes form e ++ writes form f
+unfolding cellBytes
+writes-append form [] f = refl
+writes-append form (x ∷ e) f = ap (λ (s : Bytes). fieldAs form x ++ s) (writes-append form e f) ∙ sym (append-assoc (fieldAs form x) (writes form e) (writes form f))
+
+pub sum-append : (g : Change Bytes → ℕ) (e f : D) → sumOf g (e ++ f) ≡ sumOf g e + sumOf g f
+sum-append g [] f = omega arith
+sum-append g (x ∷ e) f = omega (arith, sum-append g e f)
 
 pub record Stretching (s : Bytes) (from bound at announced withdrawn : ℕ) : Type 0 where
   pub passed : D
@@ -181,8 +187,8 @@ module _ (s : Bytes) (from bound at announced withdrawn : ℕ) (l : Stretching s
                 l .split ∙ ap (λ (x : D). l .passed ++ x) (said Delta s at (l .ready .good) stretch-in)
                 ∙ rw z (sym (append-assoc (l .passed) (item ∷ []) (changes (drop (next Delta s at (l .ready .good) stretch-in) s))));
             low = all-append (λ (x : Item Bytes (Change Bytes)). frontKey (x .key) < bound) (l .passed) (item ∷ []) (l .low) (rw w at q, tt);
-            announced-is = sum-one announces (l .passed) item ∙ omega (arith, a, l .announced-is);
-            withdrawn-is = sum-one withdraws (l .passed) item ∙ omega (arith, u, l .withdrawn-is);
+            announced-is = sum-append announces (l .passed) (item ∷ []) ∙ omega (arith, a, l .announced-is);
+            withdrawn-is = sum-append withdraws (l .passed) (item ∷ []) ∙ omega (arith, u, l .withdrawn-is);
             number = omega (arith, m, k1, l .number);
             short = omega (arith, m, l .short, d, g .size, body-size Delta (g .tag) (g .body) (g .good));
             few = omega (arith, l .few, d, k1);
@@ -194,18 +200,13 @@ module _ (s : Bytes) (from bound at announced withdrawn : ℕ) (l : Stretching s
     abbrev written : Bytes
     written = writes Delta (l .passed)
 
-    writes-append : (d e : D) → writes Delta (d ++ e) ≡ writes Delta d ++ writes Delta e
-    unfolding cellBytes
-    writes-append [] e = refl
-    writes-append (x ∷ d) e = ap (λ (b : Bytes). fieldAs Delta x ++ b) (writes-append d e) ∙ sym (append-assoc (fieldAs Delta x) (writes Delta d) (writes Delta e))
-
     run-bytes : (i : ℕ) → Ready Changes s i → writes Delta (changes (drop i s)) ≡ drop i s
     unfolding encode
     run-bytes i r = run-back Delta (r .good .run) (drop-bytes i s (λ x. o x .fits))
 
     whole : written ++ drop at s ≡ drop from s
     whole =
-        ap (λ (b : Bytes). written ++ b) (sym (run-bytes at (l .ready))) ∙ sym (writes-append (l .passed) (changes (drop at s)))
+        ap (λ (b : Bytes). written ++ b) (sym (run-bytes at (l .ready))) ∙ sym (writes-append Delta (l .passed) (changes (drop at s)))
         ∙ ap (writes Delta) (sym (l .split)) ∙ run-bytes from (l .start)
 
     size : length written ≡ at - from

@@ -43,8 +43,9 @@ use Rattle.walk.specs.declared.pass.Stand.{Stand}
 use Rattle.turn.specs.Seek.{Bounds, Seeks}
 use Rattle.turn.specs.Skip.{Skips}
 use Rattle.turn.specs.Left.{leftOf}
+use Rattle.turn.proofs.Stretching.{writes-append}
 use Rattle.walk.specs.Walk.{Stands, Wrote}
-use Rattle.walk.proofs.Walking.{plus-nil, writes-nil, writes-append, walk-left-first}
+use Rattle.walk.proofs.Walking.{plus-nil, writes-nil, walk-left-first}
 
 abbrev D : Type 0
 D = change.Delta Bytes Bytes

@@ -51,6 +51,7 @@ use Rattle.turn.specs.Left.{leftOf}
 use Rattle.item.proofs.Sinking.{sets-append}
 use Rattle.item.proofs.Tabling.{table-held}
 use Rattle.item.proofs.Putting.{counts-path, field-small}
+use Rattle.turn.proofs.Stretching.{writes-append, sum-append}
 
 abbrev D : Type 0
 D = change.Delta Bytes Bytes
@@ -64,15 +65,6 @@ plus-nil form c = counts-path (omega arith) (omega arith) (omega arith)
 pub writes-nil : (form : Form) (o : Bytes) (i : ℕ) → o ≡ sets o i (writes form [])
 unfolding cellBytes
 writes-nil form o i = refl
-
-pub writes-append : (form : Form) (e f : D) → writes form (e ++ f) ≡ writes form e ++ writes form f
-unfolding cellBytes
-writes-append form [] f = refl
-writes-append form (x ∷ e) f = ap (λ (s : Bytes). fieldAs form x ++ s) (writes-append form e f) ∙ sym (append-assoc (fieldAs form x) (writes form e) (writes form f))
-
-sum-append : (g : Change Bytes → ℕ) (e f : D) → sumOf g (e ++ f) ≡ sumOf g e + sumOf g f
-sum-append g [] f = omega arith
-sum-append g (x ∷ e) f = omega (arith, sum-append g e f)
 
 pub plus-append : (form : Form) (c : Counts) (e f : D) → plusAll form c (e ++ f) ≡ plusAll form (plusAll form c e) f
 plus-append form c e f =
