@@ -9,7 +9,7 @@ use serial::{Serial, Session};
 
 // A delta: kind 1, where it starts in the output, its length and counts. A refusal: kind 0 and its number.
 #[repr(C)]
-#[derive(Drop)]
+#[derive(Clone, Copy)]
 pub struct Reply {
     pub kind: u32,
     pub number: u32,

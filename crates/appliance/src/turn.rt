@@ -17,7 +17,7 @@ use past::state::History;
 use serial::{Serial, Session};
 
 // What is known of the answer to those that are d steps behind.
-#[derive(Drop)]
+#[derive(Clone, Copy)]
 pub enum Known {
     Nothing,
     // It is longer than the output still unused, which only shrinks.
@@ -27,7 +27,7 @@ pub enum Known {
 }
 
 // What is known after a query, its reply, and how much of the output is used.
-#[derive(Drop)]
+#[derive(Clone, Copy)]
 pub struct Turn {
     pub known: Known,
     pub reply: Reply,

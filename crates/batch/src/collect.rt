@@ -12,7 +12,7 @@ use heard::place::{size_at, type_at};
 use sorting::sort::sort;
 use std::num::wrapping_sub_usize;
 
-#[derive(Drop)]
+#[derive(Clone, Copy)]
 pub struct Part {
     // How many offsets the buffer holds.
     pub n: usize,

@@ -8,7 +8,7 @@ use crate::bound::bound;
 use crate::collect::collect;
 use sorting::sort::sort_first;
 
-#[derive(Drop)]
+#[derive(Clone, Copy)]
 pub struct Batch {
     // How many offsets the buffer holds.
     pub n: usize,

@@ -5,7 +5,7 @@ ghost use Rattle.batch.specs.Map.{Hinted, Stretch, FilledIs, Draws, Drawn, CutAt
 use heard::place::size_at;
 use sorting::sort::sort_first;
 
-#[derive(Drop)]
+#[derive(Clone, Copy)]
 pub struct Filled {
     // How many offsets the buffer holds.
     pub n: usize,

@@ -8,14 +8,14 @@ use crate::origin::origin_ok;
 use crate::router_key::router_key_ok;
 
 // The runs of fields that there are.
-#[derive(Drop)]
+#[derive(Clone, Copy)]
 pub enum Form {
     Snapshot,
     Delta,
 }
 
 // What a field does with its item: a snapshot holds it.
-#[derive(Drop)]
+#[derive(Clone, Copy)]
 pub enum Action {
     Hold,
     Announce,
@@ -24,7 +24,7 @@ pub enum Action {
 }
 
 // What a tag says: the kind of the item, and the action.
-#[derive(Drop)]
+#[derive(Clone, Copy)]
 pub enum Tag {
     Unknown,
     Origin(Action),

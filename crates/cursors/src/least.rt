@@ -5,7 +5,7 @@ use crate::lows::find;
 use crate::rank::rank;
 use order::Ordering;
 
-#[derive(Drop)]
+#[derive(Clone, Copy)]
 pub enum Found {
     Nothing,
     // Where a run stands at it, and the end of that run; the first run and the last with its front, and whether all with
@@ -14,7 +14,7 @@ pub enum Found {
 }
 
 // A run, and whether all that were looked at stand at its key.
-#[derive(Drop)]
+#[derive(Clone, Copy)]
 pub struct Lower {
     pub run: usize,
     pub same: bool,

@@ -10,7 +10,7 @@ use crate::lows::{find, of_eight, settle};
 use turn::stretch::{Stretch, seek_changes};
 
 // Where they lie in the store, and how many of them announce and withdraw.
-#[derive(Drop)]
+#[derive(Clone, Copy)]
 pub struct Lone {
     pub from: usize,
     pub to: usize,

@@ -11,7 +11,7 @@ use item::place::{Act, Held};
 use item::reading::Read;
 
 // An item, by where its key and its values lie in the store.
-#[derive(Drop)]
+#[derive(Clone, Copy)]
 pub enum Step {
     End,
     Item(Key, Act),

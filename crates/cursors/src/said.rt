@@ -13,7 +13,7 @@ use order::Ordering;
 use walk::origins::origin_at;
 
 // What a run says of a key: its change there, and where the run goes on.
-#[derive(Drop)]
+#[derive(Clone, Copy)]
 pub enum Said {
     Nothing,
     Change(Act, usize),

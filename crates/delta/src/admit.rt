@@ -8,7 +8,7 @@ use body::tag::Form;
 use field::verdict::Verdict;
 use verdict::check::check;
 
-#[derive(Drop)]
+#[derive(Clone, Copy)]
 pub enum Admitted {
     Yes,
     No(Refusal),

@@ -9,7 +9,7 @@ use fit::{Fit, first_misfit};
 use item::reading::Reading;
 use walk::walk::{Output, put_whole};
 
-#[derive(Drop)]
+#[derive(Clone, Copy)]
 pub enum Applied {
     // The length of the snapshot that was written.
     Snapshot(usize),

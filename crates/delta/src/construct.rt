@@ -10,7 +10,7 @@ use item::sink::Counts;
 use serial::{Serial, next};
 use walk::walk::{Output, put_whole};
 
-#[derive(Drop)]
+#[derive(Clone, Copy)]
 pub enum Constructed {
     // The target serial, and what was written.
     Delta(Serial, Counts),

@@ -10,7 +10,7 @@ use item::sink::Counts;
 use serial::Serial;
 use walk::walk::{Output, put_whole};
 
-#[derive(Drop)]
+#[derive(Clone, Copy)]
 pub enum Merged {
     // The target serial, and what was written.
     Delta(Serial, Counts),

@@ -2,7 +2,7 @@
 ghost use Rattle.std.specs.Prelude.{◌≡◌};
 ghost use Rattle.delta.specs.Refusal.{number_of, argument_of, offset_of};
 
-#[derive(Drop)]
+#[derive(Clone, Copy)]
 pub enum Refusal {
     // A field is cut short, has an unknown tag, or breaks a body rule.
     Bad { argument: u8, at: usize },

@@ -5,7 +5,7 @@ ghost use Rattle.field.specs.Head.{field_at};
 use number::two_at;
 
 // What stands at a place of a run of fields.
-#[derive(Drop)]
+#[derive(Clone, Copy)]
 pub enum Field {
     // Nothing: the run's end.
     End,

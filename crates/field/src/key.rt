@@ -8,7 +8,7 @@ use number::lower;
 use order::Ordering;
 
 // The place of a key: the number of its kind, and where its bytes lie.
-#[derive(Drop)]
+#[derive(Clone, Copy)]
 pub struct Key {
     pub kind: u8,
     pub from: usize,

@@ -1,5 +1,5 @@
 // What the check finds: nothing, or the first bad field, by its offset.
-#[derive(Drop)]
+#[derive(Clone, Copy)]
 pub enum Verdict {
     Fine,
     // It is cut short, has an unknown tag, or breaks a body rule.

@@ -6,7 +6,7 @@ ghost use Rattle.field.specs.Words.{words_at};
 use number::{pair_at, word_at};
 
 // The eight bytes at 0, the eight at 8, the eight at 16 and the two at 24.
-#[derive(Drop)]
+#[derive(Clone, Copy)]
 pub struct Words {
     pub first: usize,
     pub second: usize,

@@ -16,7 +16,7 @@ use order::Ordering;
 use turn::seek::{bound_at, seek};
 use turn::turn::{Side, Turn, take_turn};
 
-#[derive(Drop)]
+#[derive(Clone, Copy)]
 pub enum Fit {
     All,
     Misfit { at: usize },
@@ -100,7 +100,7 @@ fn pass_below(snapshot: &[u8], i: usize, delta: &[u8], j: usize) -> usize
 }
 
 // Where the comparison stands after a turn.
-#[derive(Drop)]
+#[derive(Clone, Copy)]
 pub enum FitStep {
     // One side has run out; this one may still have fields.
     Over(Side),

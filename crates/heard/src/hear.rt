@@ -13,7 +13,7 @@ use serial::timing::Timing;
 use serial::{Serial, Session};
 
 // How an answer stops.
-#[derive(Drop)]
+#[derive(Clone, Copy)]
 pub enum Stop {
     // At a faulty message, or at the end where one is missing.
     Faulty { at: usize },
@@ -22,7 +22,7 @@ pub enum Stop {
 }
 
 // What is heard of an answer.
-#[derive(Drop)]
+#[derive(Clone, Copy)]
 pub struct Heard {
     pub stop: Stop,
     // Where the payload messages end.
@@ -35,7 +35,7 @@ pub struct Heard {
 }
 
 // What stands at a place: a good payload message, or what stops the answer.
-#[derive(Drop)]
+#[derive(Clone, Copy)]
 pub enum Step {
     On,
     Halt(Stop),

@@ -6,7 +6,7 @@ ghost use Rattle.heard.specs.Step.{plus_at, Small};
 
 use crate::place::{announces, size_at, type_at};
 
-#[derive(Drop)]
+#[derive(Clone, Copy)]
 pub struct Sums {
     pub announced: usize,
     pub withdrawn: usize,

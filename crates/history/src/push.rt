@@ -7,7 +7,7 @@ use past::state::History;
 use serial::next;
 
 // The deltas that stay once one is added.
-#[derive(Drop)]
+#[derive(Clone, Copy)]
 pub struct Kept {
     // The first of them.
     pub first: usize,

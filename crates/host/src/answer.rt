@@ -10,7 +10,7 @@ use item::sink::Counts;
 use serial::Serial;
 
 #[repr(C)]
-#[derive(Drop)]
+#[derive(Clone, Copy)]
 pub struct Answer {
     pub kind: u32,
     pub number: u32,

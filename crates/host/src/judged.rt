@@ -7,7 +7,7 @@ use serial::Session;
 use serial::timing::Timing;
 
 #[repr(C)]
-#[derive(Drop)]
+#[derive(Clone, Copy)]
 pub struct Judged {
     pub answer: Answer,
     pub session: Session,

@@ -8,7 +8,7 @@ use serial::{Serial, Session};
 use wire::sent::Reply;
 
 #[repr(C)]
-#[derive(Drop)]
+#[derive(Clone, Copy)]
 pub struct Sent {
     pub answer: Answer,
     pub session: Session,

@@ -14,7 +14,7 @@ use serial::{Serial, Session};
 
 // Of creation and update.
 #[repr(C)]
-#[derive(Drop)]
+#[derive(Clone, Copy)]
 pub struct Made {
     pub answer: Answer,
     pub state: State,
@@ -22,7 +22,7 @@ pub struct Made {
 
 // Of a query and the full answer.
 #[repr(C)]
-#[derive(Drop)]
+#[derive(Clone, Copy)]
 pub struct Told {
     pub session: Session,
     pub answer: Answer,

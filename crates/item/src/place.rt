@@ -2,14 +2,14 @@
 use field::key::Key;
 
 // The bytes from `from` up to `to`.
-#[derive(Drop)]
+#[derive(Clone, Copy)]
 pub struct Part {
     pub from: usize,
     pub to: usize,
 }
 
 // A change, by where its former and its new value lie.
-#[derive(Drop)]
+#[derive(Clone, Copy)]
 pub enum Act {
     Announce(Part),
     Withdraw(Part),
@@ -17,14 +17,14 @@ pub enum Act {
 }
 
 // What is left of two changes at one key.
-#[derive(Drop)]
+#[derive(Clone, Copy)]
 pub enum Held {
     Nothing,
     Is(Act),
 }
 
 // An item of a run, and where the next one starts.
-#[derive(Drop)]
+#[derive(Clone, Copy)]
 pub struct Entry {
     pub key: Key,
     pub act: Act,

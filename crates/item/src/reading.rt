@@ -9,14 +9,14 @@ use field::head::{Field, field_at};
 use field::key::key_at;
 use number::two_at;
 
-#[derive(Drop)]
+#[derive(Clone, Copy)]
 pub enum Reading {
     Withdrawn,
     Announced,
     Changes,
 }
 
-#[derive(Drop)]
+#[derive(Clone, Copy)]
 pub enum Read {
     End,
     One(Entry),

@@ -11,7 +11,7 @@ use body::tag::Form;
 use field::key::Key;
 
 // How long an answer is, and how many items it announces and withdraws.
-#[derive(Drop)]
+#[derive(Clone, Copy)]
 pub struct Counts {
     pub len: usize,
     pub announced: usize,

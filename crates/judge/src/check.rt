@@ -9,7 +9,7 @@ use heard::compare::same_record;
 use heard::place::announces;
 
 // How far the search has come.
-#[derive(Drop)]
+#[derive(Clone, Copy)]
 pub struct Check {
     // The last message.
     pub last: usize,

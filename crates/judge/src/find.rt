@@ -18,7 +18,7 @@ use order::Ordering;
 use turn::seek::seek;
 
 // The first field that is not below a record, and whether it is the record.
-#[derive(Drop)]
+#[derive(Clone, Copy)]
 pub struct Found {
     pub at: usize,
     // Behind it, if it is the record.

@@ -19,7 +19,7 @@ use message::version::Version;
 use serial::timing::Timing;
 use serial::{Serial, Session};
 
-#[derive(Drop)]
+#[derive(Clone, Copy)]
 pub enum Judged {
     // The session, the serial and the times of the End of Data, and what was written.
     Accepted(Session, Serial, Timing, Counts),
@@ -27,7 +27,7 @@ pub enum Judged {
 }
 
 // A length within the room, or one over it.
-#[derive(Drop)]
+#[derive(Clone, Copy)]
 pub enum Length {
     Over,
     Within(usize),

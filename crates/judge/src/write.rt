@@ -11,7 +11,7 @@ use item::copy::copy;
 use item::place::Part;
 
 // How far the writing has come.
-#[derive(Drop)]
+#[derive(Clone, Copy)]
 pub struct Write {
     // The last message: its record is settled when the next one comes.
     pub last: usize,

@@ -11,7 +11,7 @@ use delta::refusal::Refusal;
 use serial::Serial;
 
 // What became of reading a file.
-#[derive(Drop)]
+#[derive(Clone, Copy)]
 pub enum File {
     // It cannot be opened or read.
     Absent,

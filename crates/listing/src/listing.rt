@@ -15,7 +15,7 @@ use item::sink::Counts;
 use serial::Serial;
 use walk::walk::measure;
 
-#[derive(Drop)]
+#[derive(Clone, Copy)]
 pub enum Listed {
     // The length of the text that was written.
     Text(usize),

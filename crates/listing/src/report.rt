@@ -14,7 +14,7 @@ use delta::refusal::Refusal;
 use item::sink::Counts;
 use serial::Serial;
 
-#[derive(Drop)]
+#[derive(Clone, Copy)]
 pub enum Report {
     // A delta: its target serial, and how long it is, with its counts.
     Changed(Serial, Counts),

@@ -16,7 +16,7 @@ use item::place::Part;
 use item::sink::{Counts, put_item};
 
 // What became of a step.
-#[derive(Drop)]
+#[derive(Clone, Copy)]
 pub enum Put {
     // Nothing was left.
     End,

@@ -2,7 +2,7 @@
 ghost use Rattle.std.specs.Prelude.{◌≡◌};
 ghost use Rattle.message.specs.Version.{version_number, speaks, end_length};
 
-#[derive(Drop)]
+#[derive(Clone, Copy)]
 pub enum Version {
     Rfc6810,
     Rfc8210,

@@ -1,5 +1,5 @@
 // How one thing stands to another. The theory of this crate and the code above it share this answer.
-#[derive(Drop)]
+#[derive(Clone, Copy)]
 pub enum Ordering {
     Less,
     Equal,

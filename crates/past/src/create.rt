@@ -2,13 +2,13 @@
 use crate::state::History;
 use delta::refusal::Refusal;
 
-#[derive(Drop)]
+#[derive(Clone, Copy)]
 pub enum Creation {
     Done,
     Refused(Refusal),
 }
 
-#[derive(Drop)]
+#[derive(Clone, Copy)]
 pub struct Created {
     pub answer: Creation,
     pub history: History,

@@ -2,14 +2,14 @@
 use delta::refusal::Refusal;
 use serial::{Serial, Session};
 
-#[derive(Drop)]
+#[derive(Clone, Copy)]
 pub enum FullAnswer {
     Refused(Refusal),
     // The length of the held snapshot.
     Held(usize),
 }
 
-#[derive(Drop)]
+#[derive(Clone, Copy)]
 pub struct Full {
     pub session: Session,
     pub serial: Serial,

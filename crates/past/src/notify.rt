@@ -2,7 +2,7 @@
 use serial::{Serial, Session};
 
 #[repr(C)]
-#[derive(Drop)]
+#[derive(Clone, Copy)]
 pub struct Notice {
     pub session: Session,
     pub serial: Serial,

@@ -3,14 +3,14 @@ use delta::refusal::Refusal;
 use item::sink::Counts;
 use serial::{Serial, Session};
 
-#[derive(Drop)]
+#[derive(Clone, Copy)]
 pub enum Answer {
     Refused(Refusal),
     // The delta that was written.
     Served(Counts),
 }
 
-#[derive(Drop)]
+#[derive(Clone, Copy)]
 pub struct Queried {
     pub session: Session,
     pub serial: Serial,

@@ -3,7 +3,7 @@ use crate::state::History;
 use delta::refusal::Refusal;
 use item::sink::Counts;
 
-#[derive(Drop)]
+#[derive(Clone, Copy)]
 pub enum Update {
     // The first snapshot is current; the serial stays the one that the history started with.
     First,
@@ -13,7 +13,7 @@ pub enum Update {
     Refused(Refusal),
 }
 
-#[derive(Drop)]
+#[derive(Clone, Copy)]
 pub struct Updated {
     pub answer: Update,
     pub history: History,

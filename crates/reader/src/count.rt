@@ -6,7 +6,7 @@ ghost use Rattle.reader.specs.Counting.{is_over, announces_tag, withdraws_tag, C
 use crate::{new, next};
 use field::head::Field;
 
-#[derive(Drop)]
+#[derive(Clone, Copy)]
 pub struct Tally {
     pub announced: usize,
     pub withdrawn: usize,

@@ -5,7 +5,7 @@ ghost use Rattle.serial.specs.Rfc1982.{standing};
 use super::{Serial, distance};
 
 // How one serial stands to another.
-#[derive(Drop)]
+#[derive(Clone, Copy)]
 pub enum Standing {
     Equal,
     Before,

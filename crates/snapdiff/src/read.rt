@@ -4,7 +4,7 @@ ghost use Rattle.io.specs.Counts.{IsPrefixLen};
 use listing::diff::File;
 
 // What became of reading a file, and how many bytes it has.
-#[derive(Drop)]
+#[derive(Clone, Copy)]
 pub struct Input {
     pub file: File,
     pub len: usize,

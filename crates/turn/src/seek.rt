@@ -9,7 +9,7 @@ use item::front::front_in;
 use number::{two_at, word_at};
 
 // Where a search stands, and how many items it has passed.
-#[derive(Drop)]
+#[derive(Clone, Copy)]
 pub struct Sought {
     pub at: usize,
     pub count: usize,

@@ -9,7 +9,7 @@ use item::front::front_in;
 use number::{two_at, word_at};
 
 // Where it ends, and how many of its items announce and withdraw.
-#[derive(Drop)]
+#[derive(Clone, Copy)]
 pub struct Stretch {
     pub to: usize,
     pub announced: usize,

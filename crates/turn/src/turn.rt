@@ -7,13 +7,13 @@ use item::place::Entry;
 use item::reading::{Read, Reading, read_at};
 use order::Ordering;
 
-#[derive(Drop)]
+#[derive(Clone, Copy)]
 pub enum Side {
     Left,
     Right,
 }
 
-#[derive(Drop)]
+#[derive(Clone, Copy)]
 pub enum Turn {
     // The other side has run out; this one may still have fields.
     Over(Side),

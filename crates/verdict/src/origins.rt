@@ -10,7 +10,7 @@ use field::words::Words;
 use number::{pair_at, word_at};
 
 // The heads that an origin can have: a tag and the length 23.
-#[derive(Drop)]
+#[derive(Clone, Copy)]
 pub struct Heads {
     pub one: usize,
     pub other: usize,

@@ -10,7 +10,7 @@ use field::key::{Key, key_at};
 use number::four_at;
 
 // Where a check stands: the next field's offset, and the key of the field before it.
-#[derive(Drop)]
+#[derive(Clone, Copy)]
 pub struct Stand {
     pub at: usize,
     pub before: Key,

@@ -84,7 +84,7 @@ pub fn origin_compare(a: &[u8], i: usize, b: &[u8], j: usize) -> Ordering
 }
 
 // Where the walk stands after a turn.
-#[derive(Drop)]
+#[derive(Clone, Copy)]
 pub enum OriginStep {
     // No origin on one side.
     Other,

@@ -14,7 +14,7 @@ use turn::seek::{bound_at, seek};
 use turn::skip::skip;
 
 // Where the walk stands on both sides, and what was counted.
-#[derive(Drop)]
+#[derive(Clone, Copy)]
 pub struct Stand {
     pub left: usize,
     pub right: usize,

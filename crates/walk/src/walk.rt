@@ -71,7 +71,7 @@ fn put_rest(
 }
 
 // Where the walk stands after a turn.
-#[derive(Drop)]
+#[derive(Clone, Copy)]
 pub enum Step {
     // One side has run out; this one may still have fields.
     Over(Side),
@@ -173,7 +173,7 @@ pub fn measure(form: Form, ra: Reading, a: &[u8], rb: Reading, b: &[u8]) -> Coun
     put_merge(form, ra, a, rb, b, &mut nothing)
 }
 
-#[derive(Drop)]
+#[derive(Clone, Copy)]
 pub enum Output {
     NoRoom,
     Written(Counts),

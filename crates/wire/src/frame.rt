@@ -12,7 +12,7 @@ use serial::timing::{Timing, clamp};
 use serial::{Serial, Session, session16};
 
 // The session, the serial and the times that an answer names.
-#[derive(Drop)]
+#[derive(Clone, Copy)]
 pub struct Frame {
     pub session: Session,
     pub serial: Serial,

@@ -11,7 +11,7 @@ use message::version::Version;
 use pdu::record::{put_ipv4, put_ipv6};
 
 // Where a run of origins ends, and what was counted up to there.
-#[derive(Drop)]
+#[derive(Clone, Copy)]
 pub struct RunEnd {
     pub at: usize,
     pub tally: Tally,

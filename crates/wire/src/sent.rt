@@ -6,7 +6,7 @@ use crate::tally::Tally;
 use delta::refusal::Refusal;
 use serial::{Serial, Session};
 
-#[derive(Drop)]
+#[derive(Clone, Copy)]
 pub enum Reply {
     Refused(Refusal),
     // The messages that were written.
@@ -17,7 +17,7 @@ pub enum Reply {
     Report(usize),
 }
 
-#[derive(Drop)]
+#[derive(Clone, Copy)]
 pub struct Sent {
     pub session: Session,
     pub serial: Serial,
@@ -25,7 +25,7 @@ pub struct Sent {
 }
 
 // Whether an answer was written.
-#[derive(Drop)]
+#[derive(Clone, Copy)]
 pub enum Writing {
     NoRoom,
     Whole(Tally),

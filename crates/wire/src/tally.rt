@@ -10,7 +10,7 @@ use number::wide;
 use pdu::record::{flags_of, put_message};
 
 // The bytes of all messages, how many of them announce and withdraw, and the items that there is no message for.
-#[derive(Drop)]
+#[derive(Clone, Copy)]
 pub struct Tally {
     pub len: usize,
     pub announced: usize,
