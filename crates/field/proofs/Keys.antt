@@ -61,9 +61,9 @@ module _ (s : List ℕ) (kind from to : ℕ) (o : from ≤ to) (w : to ≤ lengt
     key_fits = rw e (record { ordered = (bounds (eqb kind 3)).0; within = (bounds (eqb kind 3)).1 })
 
     -- it stands for the key of the body
-    pub key_in : key_in s k ≡ key_of kind (part s from to)
+    pub key_in_lem : key_in s k ≡ key_of kind (part s from to)
     unfolding key_of
-    key_in = rw e (ap (λ (l : List ℕ). kind ∷ l) (cut_to (eqb kind 3)))
+    key_in_lem = rw e (ap (λ (l : List ℕ). kind ∷ l) (cut_to (eqb kind 3)))
 
 -- ---- key_compare: the kinds decide, or else the bytes that lie within
 

@@ -42,8 +42,8 @@ pub state_is : (h : History) (a : ℕ) → a ≡ mark_of h.active →
 state_is h a e = λ i. record { session = h.session; keep = h.keep; active = e i; newest = h.newest; start = h.start; n = h.n; snapshot = h.snapshot; deltas = h.deltas }
 
 -- an answer with no counts
-of_length : (kind n : ℕ) (s : Serial) (k : Counts) (a : Answer) → k ≡ of_length n → a ≡ wrote kind s k → a ≡ wrote kind s (of_length n)
-of_length kind n s k a d q = q ∙ ap (wrote kind s) d
+of_length_lem : (kind n : ℕ) (s : Serial) (k : Counts) (a : Answer) → k ≡ of_length n → a ≡ wrote kind s k → a ≡ wrote kind s (of_length n)
+of_length_lem kind n s k a d q = q ∙ ap (wrote kind s) d
 
 made_path : {a b : Answer} {s t : State} → a ≡ b → s ≡ t → ◌≡◌ {A = Made} (record { answer = a; state = s }) (record { answer = b; state = t })
 made_path p q = λ i. record { answer = p i; state = q i }
@@ -53,7 +53,7 @@ told_path {s} p = λ i. record { session = s; answer = p i }
 
 module _ (c : Creation) (start : Serial) (a : Answer) where
   pub creation_done : (k : Counts) → c ≡ creation.Done → k ≡ of_length 0 → a ≡ wrote 1 start k → a ≡ flat_creation c start
-  creation_done k e d q = rw e (of_length 1 0 start k a d q)
+  creation_done k e d q = rw e (of_length_lem 1 0 start k a d q)
 
   pub creation_refused : (r : Refusal) → c ≡ creation.Refused r → a ≡ refused r → a ≡ flat_creation c start
   creation_refused r e q = rw e q
@@ -63,10 +63,10 @@ created_made c a s p q = made_path p q
 
 module _ (u : Update) (newest : Serial) (a : Answer) where
   pub update_first : (k : Counts) → u ≡ update.First → k ≡ of_length 0 → a ≡ wrote 1 newest k → a ≡ flat_update u newest
-  update_first k e d q = rw e (of_length 1 0 newest k a d q)
+  update_first k e d q = rw e (of_length_lem 1 0 newest k a d q)
 
   pub update_same : (k : Counts) → u ≡ update.Unchanged → k ≡ of_length 0 → a ≡ wrote 2 newest k → a ≡ flat_update u newest
-  update_same k e d q = rw e (of_length 2 0 newest k a d q)
+  update_same k e d q = rw e (of_length_lem 2 0 newest k a d q)
 
   pub update_changed : (k : Counts) → u ≡ update.Changed k → a ≡ wrote 3 newest k → a ≡ flat_update u newest
   update_changed k e q = rw e q
@@ -103,7 +103,7 @@ queried_told q a p = told_path p
 
 module _ (x : FullAnswer) (serial : Serial) (a : Answer) where
   pub full_held : (n : ℕ) (k : Counts) → x ≡ full.Held n → k ≡ of_length n → a ≡ wrote 1 serial k → a ≡ flat_full x serial
-  full_held n k e d q = rw e (of_length 1 n serial k a d q)
+  full_held n k e d q = rw e (of_length_lem 1 n serial k a d q)
 
   pub full_refused : (r : Refusal) → x ≡ full.Refused r → a ≡ refused r → a ≡ flat_full x serial
   full_refused r e q = rw e q
@@ -113,7 +113,7 @@ full_told f a p = told_path p
 
 module _ (x : Admitted) (serial : Serial) (used : ℕ) (a : Answer) where
   pub list_yes : (k : Counts) → x ≡ Yes → k ≡ of_length used → a ≡ wrote 1 serial k → a ≡ flat_list x serial used
-  list_yes k e d q = rw e (of_length 1 used serial k a d q)
+  list_yes k e d q = rw e (of_length_lem 1 used serial k a d q)
 
   pub list_no : (r : Refusal) → x ≡ No r → a ≡ refused r → a ≡ flat_list x serial used
   list_no r e q = rw e q

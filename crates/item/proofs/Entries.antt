@@ -19,7 +19,7 @@ use Rattle.field.specs.Cells.{Cell}
 use Rattle.field.specs.Places.{key_in, key_place}
 use Rattle.field.specs.Head.{field_at}
 use Rattle.field.proofs.Fields.{whole_at, body_ordered, body_within, field_long}
-use Rattle.field.proofs.Keys.{key_fits, key_in}
+use Rattle.field.proofs.Keys.{key_fits, key_in_lem}
 use Rattle.field.proofs.Walk.{good_end, good_cells, good_cut, good_body_lem, good_next}
 use Rattle.payload.specs.Content.{Bytes, action_of}
 use Rattle.item.specs.declared.place.Act.{Act}
@@ -78,7 +78,7 @@ module _ (reading : Reading) (s : Bytes) (at : ℕ) (g : Ready reading s at) (r 
           let act_is : act ≡ act_place reading (action_of (tag_of (form_of reading) tag)) s (record { from = (key_place (kind_of (form_of reading) tag) from to).to; to = to })
           = q ∙ rw (action_is, place_is) in
           let key_is : key_in s key ≡ (item_as reading c).key
-          = key_in s (kind_of (form_of reading) tag) from to o w key place_is ∙ sym (key_as reading c) in
+          = key_in_lem s (kind_of (form_of reading) tag) from to o w key place_is ∙ sym (key_as reading c) in
           let change-is : change_in s s act ≡ (item_as reading c).val = ap (change_in s s) act_is ∙ said.is in
           record {
             fits = record {

@@ -185,7 +185,7 @@ promise v = record { outcome = out; delta_taken = onward; full_taken = full }
         record {
           good = record { octets = encode_bytes B b; fine = (faithful Snapshot).good_bytes B m };
           says = (faithful Snapshot).map_back B m;
-          last_word = word;
+          last_word_lem = word;
           aspas_stay = λ k z. word k ∙ ap (apply_at (lookup bytes k (items snapshot))) (no_word k (hear v messages).told (hear_tells v messages) z);
         }
 

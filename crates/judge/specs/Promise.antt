@@ -56,7 +56,7 @@ pub record Outcome (v : Version) (snapshot messages : Bytes) (B : change.Snapsho
   pub good : GoodSnapshot (encode Snapshot B)
   pub says : items (encode Snapshot B) ≡ B
   -- at each key the last message counts; where there is none, what stood there stays
-  pub last_word : (k : Bytes) → lookup bytes k B ≡ apply_at (lookup bytes k (items snapshot)) (last_word k (hear v messages).told)
+  pub last_word_lem : (k : Bytes) → lookup bytes k B ≡ apply_at (lookup bytes k (items snapshot)) (last_word k (hear v messages).told)
   -- our ASPAs (kind 3) stay
   pub aspas_stay : (k : Bytes) → get_or k 0 0 ≡ 3 → lookup bytes k B ≡ lookup bytes k (items snapshot)
 

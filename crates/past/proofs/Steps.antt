@@ -227,9 +227,9 @@ module _ (h : History) (new snapshots deltas : Bytes) where
   abbrev room : Bool
   room = leb (total (map length (deltas_with h deltas c))) (length deltas)
 
-  step_by : step_for h new snapshots deltas ≡ step_by formed admitted h.active same fits room c
+  step_by_lem : step_for h new snapshots deltas ≡ step_by formed admitted h.active same fits room c
   unfolding step_for
-  step_by = go formed admitted
+  step_by_lem = go formed admitted
     where
       yes_by : (b z l m : Bool) → cond b (cond z unchanged (cond (l && m) (add c) (refuse StoreFull))) (cond l first (refuse StoreFull)) ≡ step_by true Yes b z l m c
       yes_by false z true m = refl
@@ -246,7 +246,7 @@ module _ (h : History) (new snapshots deltas : Bytes) where
 
   pub step_add : (d : Bytes) → step_for h new snapshots deltas ≡ add d → Adds h new snapshots deltas d
   step_add d e =
-      let f = by_add formed admitted h.active same fits room c d (sym step_by ∙ e) in
+      let f = by_add formed admitted h.active same fits room c d (sym step_by_lem ∙ e) in
       record {
         active = f.1;
         fine = admitted_fine Snapshot new f.0;
@@ -259,20 +259,20 @@ module _ (h : History) (new snapshots deltas : Bytes) where
 
   pub step_first : step_for h new snapshots deltas ≡ first → Begins h new snapshots
   step_first e =
-      let f = by_first formed admitted h.active same fits room c (sym step_by ∙ e) in
+      let f = by_first formed admitted h.active same fits room c (sym step_by_lem ∙ e) in
       record { active = f.1; fine = admitted_fine Snapshot new f.0; short = admitted_short Snapshot new f.0; fits = leb-true (length new) (length snapshots) f.2 }
 
   -- an update that changes nothing has found a good snapshot with the empty difference
   pub step_unchanged : step_for h new snapshots deltas ≡ unchanged →
       (verdict Snapshot new ≡ Fine) × (length (difference_of (held_snapshot h snapshots) new) ≡ 0) × (h.active ≡ true)
   step_unchanged e =
-      let f = by_unchanged formed admitted h.active same fits room c (sym step_by ∙ e) in
+      let f = by_unchanged formed admitted h.active same fits room c (sym step_by_lem ∙ e) in
       (admitted_fine Snapshot new f.0, eqb-true (length c) 0 f.1, f.2)
 
   -- refusal 7 comes only where the history is not well formed
   pub step_seven : well_formed h snapshots deltas ≡ true → ¬ (step_for h new snapshots deltas ≡ refuse IllFormed)
   step_seven w e =
-      let q : step_by true admitted h.active same fits room c ≡ refuse IllFormed = rw w at (sym step_by ∙ e) in
+      let q : step_by true admitted h.active same fits room c ≡ refuse IllFormed = rw w at (sym step_by_lem ∙ e) in
       (refusal_kind Snapshot new IllFormed (by_seven admitted h.active same fits room c q)).0 refl
 
   -- the answer is a refusal exactly if the step is
@@ -327,14 +327,14 @@ module _ (h : History) (new snapshots deltas : Bytes) where
     -- a refusal other than 9 is exactly one of the input
     pub input_refused : (r : Refusal) → ¬ (r ≡ StoreFull) → (update_of h new snapshots deltas).answer ≡ Refused r ↔ admit_one_of Snapshot new ≡ No r
     input_refused r n = (
-      λ e. by_input admitted h.active same fits room c r n (rw w at (sym step_by ∙ (refused_step r).0 e)),
-      λ e. (refused_step r).1 (step_by ∙ rw (w, e)),
+      λ e. by_input admitted h.active same fits room c r n (rw w at (sym step_by_lem ∙ (refused_step r).0 e)),
+      λ e. (refused_step r).1 (step_by_lem ∙ rw (w, e)),
     )
 
     pub step_nine : step_for h new snapshots deltas ≡ refuse StoreFull → Fills h new snapshots deltas
     step_nine e =
         let n : ¬ (admitted ≡ No StoreFull) = λ q. (refusal_kind Snapshot new StoreFull q).1 refl in
-        let f = by_nine admitted h.active same fits room c n (rw w at (sym step_by ∙ e)) in
+        let f = by_nine admitted h.active same fits room c n (rw w at (sym step_by_lem ∙ e)) in
         record {
           fine = admitted_fine Snapshot new f.0;
           short = admitted_short Snapshot new f.0;
@@ -348,26 +348,26 @@ module _ (h : History) (new snapshots deltas : Bytes) where
 
   module _ (w : well_formed h snapshots deltas ≡ true) (y : admit_one_of Snapshot new ≡ Yes) where
     pub unchanged_step : h.active ≡ true → length (difference_of (held_snapshot h snapshots) new) ≡ 0 → step_for h new snapshots deltas ≡ unchanged
-    unchanged_step a z = step_by ∙ rw (w, y, a, eq-eqb (length c) 0 z)
+    unchanged_step a z = step_by_lem ∙ rw (w, y, a, eq-eqb (length c) 0 z)
 
     pub begins_step : h.active ≡ false → length new ≤ length snapshots → step_for h new snapshots deltas ≡ first
-    begins_step a l = step_by ∙ rw (w, y, a, le-leb (length new) (length snapshots) l)
+    begins_step a l = step_by_lem ∙ rw (w, y, a, le-leb (length new) (length snapshots) l)
 
     -- the first snapshot is refused with 9 if it is longer than its store
     pub first_nine : h.active ≡ false → length snapshots < length new → step_for h new snapshots deltas ≡ refuse StoreFull
-    first_nine a l = step_by ∙ rw (w, y, a, lt-leb (length new) (length snapshots) l)
+    first_nine a l = step_by_lem ∙ rw (w, y, a, lt-leb (length new) (length snapshots) l)
 
     module _ (a : h.active ≡ true) (n : ¬ (length (difference_of (held_snapshot h snapshots) new) ≡ 0)) where
       pub adds_step : length new ≤ length snapshots → total (map length (deltas_with h deltas (difference_of (held_snapshot h snapshots) new))) ≤ length deltas →
           step_for h new snapshots deltas ≡ add (difference_of (held_snapshot h snapshots) new)
       adds_step l m =
-          step_by ∙ rw (w, y, a, ne_eqb (length c) 0 n, le-leb (length new) (length snapshots) l, le-leb (total (map length (deltas_with h deltas c))) (length deltas) m)
+          step_by_lem ∙ rw (w, y, a, ne_eqb (length c) 0 n, le-leb (length new) (length snapshots) l, le-leb (total (map length (deltas_with h deltas c))) (length deltas) m)
 
       -- a later one that changes something, if it is longer than its store or the deltas that would then be held
       -- sum to more than the delta store's length
       pub later_nine : ¬ ((length new ≤ length snapshots) × (total (map length (deltas_with h deltas (difference_of (held_snapshot h snapshots) new))) ≤ length deltas)) →
           step_for h new snapshots deltas ≡ refuse StoreFull
-      later_nine k = step_by ∙ rw (w, y, a, ne_eqb (length c) 0 n) (go fits refl room refl)
+      later_nine k = step_by_lem ∙ rw (w, y, a, ne_eqb (length c) 0 n) (go fits refl room refl)
         where
           go : (l : Bool) → fits ≡ l → (m : Bool) → room ≡ m → step_by true Yes true false l m c ≡ refuse StoreFull
           go true p true q = absurd (k (leb-true (length new) (length snapshots) p, leb-true (total (map length (deltas_with h deltas c))) (length deltas) q))

@@ -41,11 +41,11 @@ D = change.Delta Bytes Bytes
 
 -- ---- change_front
 
-pub front_at : (s : Bytes) (at c v : ℕ) → c ≡ word_at s (at + 3) → v ≡ front_in (get_or s at 0 / 16) c → v ≡ front_at s at
+pub front_at_lem : (s : Bytes) (at c v : ℕ) → c ≡ word_at s (at + 3) → v ≡ front_in (get_or s at 0 / 16) c → v ≡ front_at s at
 unfolding front_at
-front_at s at c v e q = q ∙ rw e
+front_at_lem s at c v e q = q ∙ rw e
 
-pub ruleset fronts_at = (front_at)
+pub ruleset fronts_at = (front_at_lem)
 
 -- ---- withdraws
 

@@ -28,7 +28,7 @@ use Rattle.field.specs.Head.{front, field_at}
 use Rattle.field.specs.Verdict.{judge, verdict_f, verdict}
 use Rattle.field.specs.Places.{key_in, key_place}
 use Rattle.field.proofs.Fields.{end_at_lem, cut_at, whole_at, body_ordered, body_within, field_less}
-use Rattle.field.proofs.Keys.{key_in}
+use Rattle.field.proofs.Keys.{key_in_lem}
 use Rattle.verdict.specs.Progress.{refused_at, Refuses}
 pub use Rattle.verdict.specs.Progress.{Judged}
 
@@ -87,21 +87,21 @@ module _ (form : Form) (s : List ℕ) (at : ℕ) (k : Key) (j : Judged form s at
         unfolding judge
         judged_equal u =
             let w = whole_at s at r f tag from to e in
-            let i = key_in s kind from to w.ordered w.within key p in
+            let i = key_in_lem s kind from to w.ordered w.within key p in
             rw (w.reads, parts.0, parts.1, ← m, ← i, ← l, u) at found
 
         pub judged_greater : o ≡ Greater → NotAbove at ≡ verdict form s
         unfolding judge
         judged_greater u =
             let w = whole_at s at r f tag from to e in
-            let i = key_in s kind from to w.ordered w.within key p in
+            let i = key_in_lem s kind from to w.ordered w.within key p in
             rw (w.reads, parts.0, parts.1, ← m, ← i, ← l, u) at found
 
         pub judged_next : o ≡ Less → Judged form s to key
         unfolding judge
         judged_next u =
             let w = whole_at s at r f tag from to e in
-            let i = key_in s kind from to w.ordered w.within key p in
+            let i = key_in_lem s kind from to w.ordered w.within key p in
             let size : length (part s from to) ≡ to - from = simp (length-take, length-drop) (omega arith) in
             let d : at + 3 + (to - from) ≡ to = omega arith in
             let n : ℕ = turn.0 in

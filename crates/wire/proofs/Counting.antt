@@ -105,7 +105,7 @@ pub ruleset adding = (plus_is, skip_key, skip_aspa)
 module _ (v : Version) (s : Bytes) (key : Key) (act : Act) (y : Says s key act) (t : Tally) (b : Bool) (eb : b ≡ speaks v key.kind) where
   name_length : length (part s key.from key.to) ≡ key.to - key.from
   name_length =
-      let f = y.key_in.fits in
+      let f = y.key_in_lem.fits in
       length-take-le (key.to - key.from) (drop key.from s) (simp length-drop (omega (arith, f.ordered, f.within)))
 
   -- there is no message for it
@@ -147,14 +147,14 @@ module _ (v : Version) (s : Bytes) (key : Key) (act : Act) (y : Says s key act) 
       where
         go : Shape (key_in s key) → Sayable s key
         go (an_origin e l) = record {
-          inside = y.key_in;
-          origin = λ h. omega (arith, name_length, l, y.key_in.fits.ordered);
+          inside = y.key_in_lem;
+          origin = λ h. omega (arith, name_length, l, y.key_in_lem.fits.ordered);
           other = λ h. absurd (h e);
         }
         go (a_router_key e l) = record {
-          inside = y.key_in;
+          inside = y.key_in_lem;
           origin = λ h. absurd (omega arith);
-          other = λ h. omega (arith, name_length, l, y.key_in.fits.ordered);
+          other = λ h. omega (arith, name_length, l, y.key_in_lem.fits.ordered);
         }
         go (an_aspa e) = let z : true ≡ false = sym spoken ∙ ap (speaks v) e ∙ aspas_unspoken v in never cc
 

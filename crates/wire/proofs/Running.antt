@@ -169,7 +169,7 @@ module _ (v : Version) (s : Bytes) (from : ℕ) (t : Tally) (o₀ : Bytes) (at :
       says : Says s (origin_key at) (origin_act at)
       says =
           let a : All (Valid Delta) (item_in s s (origin_key at) (origin_act at) ∷ read_as Announced (drop (at + 26) s)) = rw here_is.is at i.listed.valid in
-          record { key_in = here_is.key; valid = a.0 }
+          record { key_in_lem = here_is.key; valid = a.0 }
 
       item : ItemIs v (item_in s s (origin_key at) (origin_act at)) (counted t len announced) o o' (counted t (len + size) (announced + 1))
       item =

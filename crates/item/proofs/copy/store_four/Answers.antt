@@ -1,0 +1,6 @@
+use Rattle.std.proofs.Common.{rules}
+use Rattle.item.proofs.Copying.{halves}
+use Rattle.item.proofs.copy.store_four.Goals as goal
+
+pub returns : goal.returns
+returns c = search (halves, rules)
