@@ -16,7 +16,9 @@ use Rattle.field.proofs.Run.{cells_at_cut}
 use Rattle.field.proofs.Walk.{good_end, good_cells}
 use Rattle.payload.specs.Count.{is_announced, is_withdrawn, announced_in, withdrawn_in}
 use Rattle.reader.specs.declared.count.Tally.{Tally}
-use Rattle.reader.specs.Step.{behind}
+use Rattle.std.specs.Borrow.{Bor}
+use Rattle.reader.specs.declared.DeltaReader.{DeltaReader}
+use Rattle.reader.specs.Step.{start, behind, found, stepped}
 use Rattle.reader.specs.Count.{tally_of}
 use Rattle.reader.specs.Counting.{announces_tag, withdraws_tag, Countable, plus_field, is_over}
 
@@ -123,3 +125,41 @@ module _ (s : List ℕ) (at : ℕ) (f : Field) (e : f ≡ field_at s at) where
               less = omega arith;
               room = omega arith;
             })
+
+-- a reader over d, where c are the counts of the fields that it has passed
+pub record Passed (d : List ℕ) (r : DeltaReader) (c : Tally) : Type 0 where
+  pub same : r.delta.now ≡ d
+  pub counted : Counted d r.at c
+
+pub passed_none : (d : Bor (List ℕ)) (r : DeltaReader) → r ≡ start d → Passed d.now r (record { announced = 0; withdrawn = 0 })
+passed_none d r e = rw e (record { same = refl; counted = counted_start d.now })
+
+module _ (d : List ℕ) (r : DeltaReader) (c : Tally) (f : Field) (h : Passed d r c) (e : f ≡ found r) where
+  at_place : f ≡ field_at d r.at
+  at_place = rw (← h.same) e
+
+  pub passed_all : is_over f ≡ true → c ≡ tally_of d
+  passed_all l = counted_all d r.at f at_place c h.counted l
+
+  pass_more : is_over f ≡ false → More d r.at f c
+  pass_more l = counted_more d r.at f at_place c h.counted l
+
+  pub passed_room : is_over f ≡ false → length d < 2 ^ 64 → Countable c
+  passed_room l k =
+      let m = pass_more l in
+      let i = m.room in
+      let a = h.counted.few in
+      let b = h.counted.fewer in
+      record { announced = omega arith; withdrawn = omega arith }
+
+  module _ (q : DeltaReader) (n : q ≡ stepped r) (l : is_over f ≡ false) where
+    place : q.at ≡ behind f r.at
+    place = rw (n, ← e)
+
+    pub passed_less : length d - q.at < length d - r.at
+    passed_less = rw place ((pass_more l).less)
+
+    pub passed_more : (b : Tally) → b ≡ plus_field c f → Passed d q b
+    passed_more b k = record { same = rw n h.same; counted = rw (place, k) ((pass_more l).counted) }
+
+pub ruleset passing = (passed_none, passed_all, passed_room, passed_less, passed_more)

@@ -2,8 +2,7 @@
 use Prim.Native.Nat.{ℕ}
 use mathlib.Core.Path.{◌≡◌, refl}
 use mathlib.Core.List.{List, [], ◌∷◌, ◌++◌}
-use base.Fml.{GName}
-use denote.Ref.{MutBor}
+use Rattle.std.specs.Borrow.{Bor}
 use Rattle.field.specs.declared.head.Field.TheVariants.{End, Cut, Whole}
 use Rattle.field.specs.Head.{front, field_at}
 use Rattle.field.specs.Cells.{cells_f, cells}
@@ -18,9 +17,9 @@ announced = 0x31 ∷ 0 ∷ 4 ∷ 0 ∷ 0 ∷ 0 ∷ 1 ∷ []
 abbrev withdrawn : List ℕ
 withdrawn = 0x32 ∷ 0 ∷ 8 ∷ 0 ∷ 0 ∷ 0 ∷ 2 ∷ 0 ∷ 0 ∷ 0 ∷ 9 ∷ []
 
-module _ (p : ℕ × ℕ) (γ : GName) where
-  abbrev lent : List ℕ → MutBor (List ℕ)
-  lent s = record { ref_ptr = p; ghost_name = γ; now = s }
+module _ (p : ℕ × ℕ) where
+  abbrev lent : List ℕ → Bor (List ℕ)
+  lent s = record { ref_ptr = p; now = s }
 
   -- each field once, then the end, and again
   both : answers 4 (start (lent (announced ++ withdrawn))) ≡ Whole 0x31 3 7 ∷ Whole 0x32 10 18 ∷ End ∷ End ∷ []

@@ -1,0 +1,12 @@
+use Rattle.std.proofs.Common.{rules}
+use Rattle.walk.proofs.Walking.{merging}
+use Rattle.walk.proofs.walk.put_merge.Goals as goal
+
+pub loop-side-preserved : goal.loop-side-preserved
+loop-side-preserved c = search (merging, rules)
+
+pub returns-in-Left : goal.returns-in-Left
+returns-in-Left c = search (merging, rules)
+
+pub returns : goal.returns
+returns c = search (merging, rules)
