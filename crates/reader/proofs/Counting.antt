@@ -1,6 +1,6 @@
 -- Counting a delta's fields: what the code that counts asks.
 use Prim.Native.Nat.{ℕ, ◌+◌, ◌-◌, ◌%◌, ◌<◌, ◌≤◌, ◌^◌}
-use mathlib.Core.Path.{◌≡◌, refl}
+use mathlib.Core.Path.{◌≡◌, refl, sym, ◌∙◌}
 use mathlib.Core.Bool.{Bool, true, false, cond}
 use mathlib.Core.List.{List, []}
 use native.Mathlib.Omega.{arith}
@@ -134,25 +134,25 @@ pub record Passed (d : List ℕ) (r : DeltaReader) (c : Tally) : Type 0 where
 pub passed_none : (d : Bor (List ℕ)) (r : DeltaReader) → r ≡ start d → Passed d.now r (record { announced = 0; withdrawn = 0 })
 passed_none d r e = rw e (record { same = refl; counted = counted_start d.now })
 
-module _ (d : List ℕ) (r : DeltaReader) (c : Tally) (f : Field) (h : Passed d r c) (e : f ≡ found r) where
+module _ (d : List ℕ) (r : DeltaReader) (c : Tally) (f : Field) (o : Bool) (h : Passed d r c) (e : f ≡ found r) (i : o ≡ is_over f) where
   at_place : f ≡ field_at d r.at
   at_place = rw (← h.same) e
 
-  pub passed_all : is_over f ≡ true → c ≡ tally_of d
-  passed_all l = counted_all d r.at f at_place c h.counted l
+  pub passed_all : o ≡ true → c ≡ tally_of d
+  passed_all l = counted_all d r.at f at_place c h.counted (sym i ∙ l)
 
-  pass_more : is_over f ≡ false → More d r.at f c
-  pass_more l = counted_more d r.at f at_place c h.counted l
+  pass_more : o ≡ false → More d r.at f c
+  pass_more l = counted_more d r.at f at_place c h.counted (sym i ∙ l)
 
-  pub passed_room : is_over f ≡ false → length d < 2 ^ 64 → Countable c
+  pub passed_room : o ≡ false → length d < 2 ^ 64 → Countable c
   passed_room l k =
       let m = pass_more l in
-      let i = m.room in
+      let u = m.room in
       let a = h.counted.few in
       let b = h.counted.fewer in
       record { announced = omega arith; withdrawn = omega arith }
 
-  module _ (q : DeltaReader) (n : q ≡ stepped r) (l : is_over f ≡ false) where
+  module _ (q : DeltaReader) (n : q ≡ stepped r) (l : o ≡ false) where
     place : q.at ≡ behind f r.at
     place = rw (n, ← e)
 
