@@ -5,7 +5,7 @@ ghost use Rattle.cursors.specs.Front.{Fronted};
 use crate::front::front_at;
 use crate::lows::settle;
 
-#[derive(Drop)]
+#[derive(Clone, Copy)]
 pub struct Line {
     pub of: [u64; 72],
 }

@@ -6,7 +6,7 @@ use past::state::History;
 use serial::Serial;
 
 #[repr(C)]
-#[derive(Drop)]
+#[derive(Clone, Copy)]
 pub struct State {
     pub session: u64,
     pub keep: u32,

@@ -4,7 +4,7 @@ ghost use Rattle.merged.specs.Place.{Summed, Placed};
 use crate::lengths::wide;
 
 // Where each delta starts and ends.
-#[derive(Drop)]
+#[derive(Clone, Copy)]
 pub struct Places {
     pub at: [usize; 64],
     pub ends: [usize; 64],

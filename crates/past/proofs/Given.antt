@@ -13,7 +13,7 @@ use Rattle.serial.specs.Serial.{next_of}
 use Rattle.payload.specs.Content.{Bytes}
 use Rattle.delta.specs.Demand.{GoodSnapshot, Acceptable}
 use Rattle.past.specs.Update.{Step, refuse, first, unchanged, add, step_for, update_at, update_of}
-use Rattle.past.specs.Run.{World, Call, update, query, full, notify, ready, given_by, given_after, Reached, run_of, or_last, carried}
+use Rattle.past.specs.Run.{World, Call, update, query, full, notify, ready, given_by, given_after, Reached, onward, run_of, or_last, carried}
 use Rattle.past.specs.Promise.{OfBytes, current, Promise}
 use Rattle.past.proofs.Lists.{all_push}
 use Rattle.past.proofs.Steps.{step_add, step_first}
@@ -39,7 +39,7 @@ given_step w ready given o h = h
 
 pub given_acceptable : (r : Reached) (calls : List Call) → All OfBytes calls → All Acceptable r.given → All Acceptable (run_of r calls).given
 given_acceptable r [] o h = h
-given_acceptable r (c ∷ calls) o h = given_acceptable _ calls o.1 (given_step r.world c r.given o.0 h)
+given_acceptable r (c ∷ calls) o h = given_acceptable (onward r c) calls o.1 (given_step r.world c r.given o.0 h)
 
 all_good : (ss : List Bytes) → All Acceptable ss → All GoodSnapshot ss
 all_good [] h = tt

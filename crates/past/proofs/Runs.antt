@@ -52,7 +52,7 @@ use Rattle.past.specs.Create.{create_at, create_of}
 use Rattle.past.specs.Update.{Step, refuse, first, unchanged, add, step_for, update_at, update_of, snapshots_at, update_snapshots, deltas_at, update_deltas}
 use Rattle.past.specs.Query.{is_served, is_session, merged_last, answer_of, served_with, query_out}
 use Rattle.past.specs.Full.{full_of, notify_of, ready_of}
-use Rattle.past.specs.Run.{World, Call, update, query, full, notify, ready, queried, fully, noticed, is_ready, reply_of, lent_to, left_in, step_of, refused_update, refused_answer, numbered, refused_as, refusal, Reached, start_of, run_of, carried}
+use Rattle.past.specs.Run.{World, Call, update, query, full, notify, ready, queried, fully, noticed, is_ready, reply_of, lent_to, left_in, step_of, refused_update, refused_answer, numbered, refused_as, refusal, Reached, onward, start_of, run_of, carried}
 use Rattle.past.specs.Promise.{OfBytes, changes_in, serial_in, InRule, due, Leads, current, written_in, queried_in, Promise, EveryRun}
 use Rattle.past.proofs.Lists.{map_last_n, map_newest, map_nth, all_map}
 use Rattle.delta.specs.Demand.{GoodSnapshot}
@@ -213,7 +213,7 @@ start_inv session keep start snapshots deltas bound = go (good_keep keep) refl (
 run_inv : (session keep : ℕ) (start : Serial) (r : Reached) (calls : List Call) → All OfBytes calls → Inv session keep start r.world r.given →
     Inv session keep start (run_of r calls).world (run_of r calls).given
 run_inv session keep start r [] o i = i
-run_inv session keep start r (c ∷ calls) o i = run_inv session keep start _ calls o.1 (call_inv session keep start r.world r.given c o.0 i)
+run_inv session keep start r (c ∷ calls) o i = run_inv session keep start (onward r c) calls o.1 (call_inv session keep start r.world r.given c o.0 i)
 
 module _ (session keep : ℕ) (start : Serial) (w : World) where
   inv_frame : (given : List Bytes) → Inv session keep start w given → Frame session keep start w

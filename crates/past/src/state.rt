@@ -1,7 +1,7 @@
 // What a history holds beside its two lent stores.
 use serial::Serial;
 
-#[derive(Drop)]
+#[derive(Clone, Copy)]
 pub struct History {
     pub session: u64,
     pub keep: u32,

@@ -1,0 +1,6 @@
+use Rattle.std.proofs.Common.{rules}
+use Rattle.heard.proofs.Comparing.{lasts}
+use Rattle.heard.proofs.compare.six_last.Goals as goal
+
+pub returns : goal.returns
+returns c = search (lasts, rules)
