@@ -45,12 +45,15 @@ module _ {s : Bytes} where
   messages_append done n = n
   messages_append (more p m) n = more p (messages_append m n)
 
+  same_by : {at stop end : ℕ} {xs ys : List ℕ} → Messages s at xs stop → Messages s at ys end → stop ≡ end → xs ≡ ys
+  same_by done done e = refl
+  same_by done (more {at} p m) e = absurd (omega (arith, messages_ahead m, size_some s at p))
+  same_by (more {at} p m) done e = absurd (omega (arith, messages_ahead m, size_some s at p))
+  same_by (more {at} p m) (more q n) e = ap (λ (l : List ℕ). at ∷ l) (same_by m n e)
+
   -- they are determined by where they start and stop
   pub messages_same : {at stop : ℕ} {xs ys : List ℕ} → Messages s at xs stop → Messages s at ys stop → xs ≡ ys
-  messages_same done done = refl
-  messages_same done (more {at} p m) = absurd (omega (arith, messages_ahead m, size_some s at p))
-  messages_same (more {at} p m) done = absurd (omega (arith, messages_ahead m, size_some s at p))
-  messages_same (more {at} p m) (more q n) = ap (λ (l : List ℕ). at ∷ l) (messages_same m n)
+  messages_same m n = same_by m n refl
 
 -- the first of them, and those behind it
 pub record First (s : Bytes) (at stop : ℕ) (xs : List ℕ) : Type 0 where

@@ -2,32 +2,34 @@
 mod path;
 mod read;
 
-use libc::STDOUT_FILENO;
 use listing::diff::diff_text;
 use listing::listing::Listed;
-use path::join;
+use path::{argument, join, path_of};
 use read::read_file;
+use std::io;
+use std::io::Write;
 
 // The text that stands at the start of out.
-fn write_text(listed: Listed, out: &[u8]) {
+fn write_text(rt: &impl Print, listed: Listed, out: &[u8]) -> io::Result<()> {
     // Never refused: out has room for the longest text.
     let Listed::Text(len) = listed else {
-        return;
+        return Ok(());
     };
     if len <= out.len() {
-        io::write_all(STDOUT_FILENO, &out[..len]);
+        io::writer(rt).write_all(&out[..len])?;
     }
+    Ok(())
 }
 
 // The text for two files.
-fn compare(old_path: &[u8], new_path: &[u8]) {
+fn compare(rt: &HostRuntime, old_path: &str, new_path: &str) -> io::Result<()> {
     let mut old = [0u8; 32768];
     let mut new = [0u8; 32768];
     let mut delta = [0u8; 65536];
     // A field of n bytes has a line of at most 3 n bytes, and the head line at most 109: 196,717 for a delta of 65,536.
     let mut out = [0u8; 200000];
-    let first = read_file(old_path, &mut old);
-    let second = read_file(new_path, &mut new);
+    let first = read_file(rt, old_path, &mut old);
+    let second = read_file(rt, new_path, &mut new);
     let old_file = first.file;
     let new_file = second.file;
     let n = first.len;
@@ -40,29 +42,33 @@ fn compare(old_path: &[u8], new_path: &[u8]) {
         &mut delta,
         &mut out,
     );
-    write_text(listed, &out);
+    write_text(rt, listed, &out)
 }
 
-// The same in the folder that argument i names.
-fn compare_in(i: usize) {
-    let mut old_path = io::buffer();
-    let mut new_path = io::buffer();
-    let old_folder = os::arg(i, &mut old_path);
-    let new_folder = os::arg(i, &mut new_path);
-    let n = join(&mut old_path, old_folder, b"/old.snap");
-    let m = join(&mut new_path, new_folder, b"/new.snap");
-    compare(&old_path[..n], &new_path[..m]);
+// The same in a folder, whose name is the first n bytes of each path.
+fn compare_in(
+    rt: &HostRuntime,
+    n: usize,
+    old_path: &mut [u8],
+    new_path: &mut [u8],
+) -> io::Result<()> {
+    let old_end = join(old_path, n, b"/old.snap");
+    let new_end = join(new_path, n, b"/new.snap");
+    compare(rt, path_of(old_path, old_end), path_of(new_path, new_end))
 }
 
-fn main() {
-    let count = os::arg_count();
-    if count < 2 {
-        compare(b"old.snap", b"new.snap");
-        return;
+fn main(rt: HostRuntime) -> io::Result<()> {
+    for i in 1..usize::MAX {
+        let mut old_path = [0u8; 4096];
+        let mut new_path = [0u8; 4096];
+        let Some(n) = argument(&rt, i, &mut old_path) else {
+            if i == 1 {
+                compare(&rt, "old.snap", "new.snap")?;
+            }
+            break;
+        };
+        argument(&rt, i, &mut new_path);
+        compare_in(&rt, n, &mut old_path, &mut new_path)?;
     }
-    let mut i = 1;
-    while i < count {
-        compare_in(i);
-        i += 1;
-    }
+    Ok(())
 }

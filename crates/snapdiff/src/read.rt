@@ -1,7 +1,11 @@
 // A file into a buffer.
+ghost use Rattle.std.specs.Prelude.{◌≤◌, length};
 ghost use Rattle.io.specs.Counts.{IsPrefixLen};
 
 use listing::diff::File;
+use std::fs;
+use std::fs::Files;
+use std::io::Read;
 
 // What became of reading a file, and how many bytes it has.
 #[derive(Clone, Copy)]
@@ -10,23 +14,47 @@ pub struct Input {
     pub len: usize,
 }
 
-// All that fd still has: the read is whole only where one more byte is answered by the end of the file.
-fn read_all(fd: i32, buf: &mut [u8]) -> Input
+// How many bytes one read puts at the start of buf: none at the end of the file, and none where the read fails.
+fn read_some(file: &mut impl Read, buf: &mut [u8]) -> usize
+    ensures { result ≤ length buf.new }
+{
+    match file.read(buf) {
+        Ok(n) => n,
+        Err(_) => 0,
+    }
+}
+
+// Reads until buf is full, or a read gives nothing.
+fn read_full(file: &mut impl Read, buf: &mut [u8]) -> usize
+    ensures { IsPrefixLen result buf.new }
+{
+    let mut done = 0;
+    while done < buf.len() {
+        let n = read_some(file, &mut buf[done..]);
+        if n == 0 {
+            break;
+        }
+        done += n;
+    }
+    done
+}
+
+// All that file still has: the read is whole only where one more byte is answered by the end of the file.
+fn read_all(file: &mut impl Read, buf: &mut [u8]) -> Input
     ensures { IsPrefixLen result.len buf.new }
 {
-    let len = io::read_full(fd, buf);
+    let len = read_full(file, buf);
     let mut more = [0u8; 1];
-    let got = libc::read(fd, &mut more);
+    let Ok(got) = file.read(&mut more) else {
+        return Input {
+            file: File::Absent,
+            len: 0,
+        };
+    };
     if got == 0 {
         return Input {
             file: File::Read,
             len,
-        };
-    }
-    if got < 0 {
-        return Input {
-            file: File::Absent,
-            len: 0,
         };
     }
     // Where the buffer is not full, a read before this one failed.
@@ -43,17 +71,14 @@ fn read_all(fd: i32, buf: &mut [u8]) -> Input
 }
 
 // The file of this name.
-pub fn read_file(path: &[u8], buf: &mut [u8]) -> Input
+pub fn read_file<R: Files>(rt: &R, path: &str, buf: &mut [u8]) -> Input
     ensures { IsPrefixLen result.len buf.new }
 {
-    let fd = os::open_read(path);
-    if fd < 0 {
+    let Ok(mut file) = fs::open(rt, path) else {
         return Input {
             file: File::Absent,
             len: 0,
         };
-    }
-    let input = read_all(fd, buf);
-    libc::close(fd);
-    input
+    };
+    read_all(&mut file, buf)
 }

@@ -1,0 +1,9 @@
+use Rattle.std.proofs.Common.{rules}
+use Rattle.history.proofs.Updating.{updating}
+use Rattle.history.proofs.update.settle.Goals as goal
+
+pub returns-in-No : goal.returns-in-No
+returns-in-No c = search (updating, rules)
+
+pub accept-requires : goal.accept-requires
+accept-requires c = search (updating, rules)
