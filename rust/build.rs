@@ -9,7 +9,7 @@ fn main() {
     let archive = dir.join("libhost.a");
     println!("cargo::rerun-if-changed={}", archive.display());
     match machine(&archive) {
-        None => fail(&format!("{} is no archive: write it with `rt staticlib host`", archive.display())),
+        None => fail(&format!("{} is no archive: write it with `tools/archive`", archive.display())),
         Some(found) if found != env::var("CARGO_CFG_TARGET_ARCH").expect("set by cargo") => {
             fail(&format!("{} is for {found}: build for that target", archive.display()))
         }

@@ -15,7 +15,7 @@ use Rattle.past.specs.Create.{create_of}
 use Rattle.past.specs.Update.{Step, refuse, first, unchanged, add, step_for, update_at, update_of, update_snapshots, update_deltas}
 use Rattle.past.specs.Query.{query_of, query_out}
 use Rattle.past.specs.Full.{full_of, notify_of, ready_of}
-use Rattle.past.specs.Run.{World, Call, update, query, full, notify, ready, reply_of, step_of, Reached, start_of, run_of}
+use Rattle.past.specs.Run.{onward, World, Call, update, query, full, notify, ready, reply_of, step_of, Reached, start_of, run_of}
 use Rattle.past.specs.Promise.{Promise}
 use Rattle.past.proofs.Runs as past
 use Rattle.host.specs.declared.state.State.{State}
@@ -89,7 +89,7 @@ module _ (w : World) where
 -- so does a run
 run_kept : (r : Reached) (calls : List Call) → kept_run (kept_of r.world) calls ≡ kept_of (run_of r calls).world
 run_kept r [] = refl
-run_kept r (c ∷ calls) = ap (λ (k : Kept). kept_run k calls) (call_kept r.world c) ∙ run_kept _ calls
+run_kept r (c ∷ calls) = ap (λ (k : Kept). kept_run k calls) (call_kept r.world c) ∙ run_kept (onward r c) calls
 
 hosted_at : (session keep : ℕ) (start : Serial) (k : Kept) (r : Reached) → Promise session keep start r → k ≡ kept_of r.world → Hosted session keep start k r
 hosted_at session keep start k r p e = record {
