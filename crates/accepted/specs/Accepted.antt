@@ -1,5 +1,5 @@
 -- What a history writes, the judge accepts: one who holds what the router held gets the current snapshot, over every run of calls.
-use Rattle.std.specs.Prelude.{ℕ, ◌%◌, ◌^◌, ◌<◌, ◌≤◌, ◌≡◌, List, [], length}
+use Rattle.std.specs.Prelude.{ℕ, ◌^◌, ◌<◌, ◌≤◌, ◌≡◌, List, [], length}
 use Rattle.std.proofs.Math.Option.{some}
 use Rattle.order.specs.Map.{All}
 use Rattle.serial.specs.declared.Serial.{Serial}

@@ -1,1 +1,3 @@
+#![tactic(auto)]
+
 // What a history writes, the judge accepts: theorems alone.

@@ -31,9 +31,9 @@ use Rattle.past.specs.Query.{ask_admitted, passes, merged_last, query_at, query_
 use Rattle.history.proofs.Asking.{formed_stored, query_within}
 use Rattle.appliance.specs.declared.reply.Reply.{Reply}
 use Rattle.appliance.specs.declared.reply.Replied.{Replied}
-use Rattle.appliance.specs.declared.turn.Known.{Known}
-use Rattle.appliance.specs.declared.turn.Known.TheVariants.{Nothing}
-use Rattle.appliance.specs.declared.turn.Turn.{Turn}
+use Rattle.appliance.specs.declared.router_turn.Known.{Known}
+use Rattle.appliance.specs.declared.router_turn.Known.TheVariants.{Nothing}
+use Rattle.appliance.specs.declared.router_turn.Turn.{Turn}
 use Rattle.appliance.specs.QueryAll.{Asked, asked_in, asked_first, asked_by, good_list, list_admitted, reply_of, used_by, Laid, answered, laid_of, no_reply, padded, refused_call, query_all_of, query_all_out}
 use Rattle.appliance.specs.Turn.{Remembers, Takes, TurnIs}
 use Rattle.appliance.proofs.Turning.{knows_nothing, knows_still}

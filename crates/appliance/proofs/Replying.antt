@@ -18,7 +18,7 @@ use Rattle.delta.specs.Refusal.{number_of}
 use Rattle.past.specs.declared.state.History.{History}
 use Rattle.past.specs.WellFormed.{well_formed}
 use Rattle.appliance.specs.declared.reply.Reply.{Reply}
-use Rattle.appliance.specs.declared.turn.Known.{Known}
+use Rattle.appliance.specs.declared.router_turn.Known.{Known}
 use Rattle.appliance.specs.QueryAll.{good_list, list_admitted, no_reply, refused_with, refused_call}
 use Rattle.appliance.specs.Turn.{refused_turn}
 

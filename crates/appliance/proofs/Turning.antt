@@ -28,9 +28,9 @@ use Rattle.past.specs.Store.{held_deltas}
 use Rattle.past.specs.Query.{ask_admitted, merged_last, query_at}
 use Rattle.merged.specs.Place.{Stored}
 use Rattle.appliance.specs.declared.reply.Reply.{Reply}
-use Rattle.appliance.specs.declared.turn.Known.{Known}
-use Rattle.appliance.specs.declared.turn.Known.TheVariants.{Nothing, Long, Stands}
-use Rattle.appliance.specs.declared.turn.Turn.{Turn}
+use Rattle.appliance.specs.declared.router_turn.Known.{Known}
+use Rattle.appliance.specs.declared.router_turn.Known.TheVariants.{Nothing, Long, Stands}
+use Rattle.appliance.specs.declared.router_turn.Turn.{Turn}
 use Rattle.appliance.specs.QueryAll.{served_at}
 use Rattle.appliance.specs.Turn.{Apart, Standing, Remembers, Takes, TurnIs, refused_turn, Shares, shared_turn, shared_out}
 use Rattle.appliance.proofs.Repeating.{take_sets, part_same}

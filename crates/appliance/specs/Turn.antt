@@ -12,9 +12,9 @@ use Rattle.past.specs.declared.state.History.{History}
 use Rattle.past.specs.Store.{held_deltas}
 use Rattle.past.specs.Query.{merged_last, query_at}
 use Rattle.merged.specs.Place.{Stored}
-use Rattle.appliance.specs.declared.turn.Known.{Known}
-use Rattle.appliance.specs.declared.turn.Known.TheVariants.{Nothing, Long, Stands}
-use Rattle.appliance.specs.declared.turn.Turn.{Turn}
+use Rattle.appliance.specs.declared.router_turn.Known.{Known}
+use Rattle.appliance.specs.declared.router_turn.Known.TheVariants.{Long, Stands}
+use Rattle.appliance.specs.declared.router_turn.Turn.{Turn}
 use Rattle.appliance.specs.QueryAll.{served_at, refused_with, reply_of, used_by}
 
 -- n bytes at `from` lie below i, where there is room for them

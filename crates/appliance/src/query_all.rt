@@ -5,7 +5,7 @@ ghost use Rattle.number.specs.Number.{two_at, four_at};
 ghost use Rattle.appliance.specs.QueryAll.{good_list, list_admitted, no_reply, refused_call, query_all_of, query_all_out};
 
 use crate::reply::{Replied, Reply};
-use crate::turn::{Known, reply_to};
+use crate::router_turn::{Known, reply_to};
 use delta::admit::Admitted;
 use delta::refusal::Refusal;
 use history::well_formed::well_formed;

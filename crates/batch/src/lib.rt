@@ -1,4 +1,6 @@
 // The payload messages of an answer in message order, a batch at a time.
+#![tactic(auto)]
+
 pub mod bound;
 pub mod collect;
 pub mod next;

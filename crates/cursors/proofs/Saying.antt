@@ -13,7 +13,7 @@ use Rattle.order.specs.declared.Ordering.TheVariants.{Less, Equal, Greater}
 use Rattle.order.specs.Comparison.{bytes}
 use Rattle.order.specs.Many.{first, past}
 use Rattle.order.proofs.Comparison.{strings}
-use Rattle.change.specs.Change.{Change, announce, withdraw}
+use Rattle.change.specs.Change.{announce, withdraw}
 use Rattle.number.specs.Bytes.{part}
 use Rattle.field.specs.Places.{key_in}
 use Rattle.field.specs.If.{If}

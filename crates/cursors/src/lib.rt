@@ -1,4 +1,6 @@
 // The walk over many deltas at once: a cursor for each, the lowest key first.
+#![tactic(auto)]
+
 pub mod cursor;
 pub mod front;
 pub mod fronts;

@@ -1,4 +1,6 @@
 // Difference, merge and application of snapshots and deltas as bytes, with their refusals.
+#![tactic(auto)]
+
 pub mod admit;
 pub mod apply;
 pub mod construct;

@@ -24,7 +24,7 @@ use Rattle.field.specs.Cells.{Cell, cells}
 use Rattle.field.specs.Places.{key_in}
 use Rattle.payload.specs.Content.{Bytes, entry_of}
 use Rattle.payload.specs.Payload.{entries, items, changes}
-use Rattle.payload.proofs.Faithful.{Read, read}
+use Rattle.payload.proofs.Faithful.{read}
 use Rattle.item.specs.declared.place.Part.{Part}
 use Rattle.item.specs.declared.place.Act.{Act}
 use Rattle.item.specs.declared.place.Act.TheVariants.{Announce, Withdraw, Update}

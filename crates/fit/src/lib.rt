@@ -1,4 +1,6 @@
 // Whether a delta can be applied to a snapshot: the first item that cannot is named.
+#![tactic(auto)]
+
 ghost use Rattle.std.specs.Prelude.{◌≡◌, [], drop};
 ghost use Rattle.std.proofs.Math.Option.{some};
 ghost use Rattle.order.specs.Comparison.{bytes};

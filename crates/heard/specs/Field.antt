@@ -1,5 +1,5 @@
 -- The snapshot's field of a record.
-use Rattle.std.specs.Prelude.{List, get_or, drop}
+use Rattle.std.specs.Prelude.{get_or, drop}
 use Rattle.field.specs.Cells.{field}
 use Rattle.payload.specs.Content.{Bytes}
 

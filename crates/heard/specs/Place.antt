@@ -3,7 +3,7 @@ use Rattle.std.specs.Prelude.{ℕ, ◌+◌, ◌≤◌, ◌≡◌, List, [], ◌�
 use Rattle.order.specs.declared.Ordering.{Ordering}
 use Rattle.order.specs.declared.Ordering.TheVariants.{Less, Equal, Greater}
 use Rattle.order.specs.Comparison.{bytes}
-use Rattle.change.specs.Change.{Change, announce, withdraw}
+use Rattle.change.specs.Change.{announce, withdraw}
 use Rattle.number.specs.Number.{four_at}
 use Rattle.number.specs.Bytes.{part}
 use Rattle.payload.specs.Content.{Bytes}

@@ -1,6 +1,6 @@
 -- How far the hearing of an answer has come, and one message more.
-use Rattle.std.specs.Prelude.{ℕ, ◌+◌, ◌-◌, ◌*◌, ◌^◌, ◌<◌, ◌≤◌, ◌≡◌, List, [], ◌∷◌, ◌++◌, map, Bool, true, false, cond, ◌&&◌, leb, eqb, length, get_or, drop}
-use Rattle.number.specs.Number.{two_at, four_at}
+use Rattle.std.specs.Prelude.{ℕ, ◌+◌, ◌-◌, ◌*◌, ◌^◌, ◌<◌, ◌≤◌, ◌≡◌, List, ◌++◌, map, Bool, true, false, cond, ◌&&◌, leb, eqb, length, get_or, drop}
+use Rattle.number.specs.Number.{four_at}
 use Rattle.payload.specs.Content.{Bytes}
 use Rattle.message.specs.declared.version.Version.{Version}
 use Rattle.message.specs.Version.{version_number, speaks, times_in, end_length}

@@ -1,4 +1,6 @@
 // The messages of one answer, as they are heard.
+#![tactic(auto)]
+
 pub mod check;
 pub mod compare;
 pub mod front;

@@ -1,4 +1,6 @@
 // The history of a server's snapshots and what it serves.
+#![tactic(auto)]
+
 pub mod create;
 pub mod full;
 pub mod notify;

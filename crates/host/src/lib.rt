@@ -1,4 +1,6 @@
 // The C interface: numbers, byte slices and structs by value.
+#![tactic(auto)]
+
 pub mod answer;
 pub mod calls;
 pub mod judged;

@@ -1,5 +1,5 @@
 -- What is written of a list of changes, and its counts.
-use Rattle.std.specs.Prelude.{ℕ, ◌+◌, ◌*◌, ◌^◌, ◌<◌, [], ◌++◌, map, length, get_or, drop}
+use Rattle.std.specs.Prelude.{ℕ, ◌+◌, ◌^◌, ◌<◌, [], ◌++◌, map, length, get_or, drop}
 use Rattle.order.specs.Map.{Item}
 use Rattle.change.specs.Change.{Change}
 use Rattle.change.specs.Difference as change

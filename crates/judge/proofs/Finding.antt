@@ -21,19 +21,16 @@ use Rattle.order.proofs.Map.{all_append}
 use Rattle.change.specs.Change.{Change}
 use Rattle.change.specs.Difference as change
 use Rattle.number.specs.Number.{word_at}
-use Rattle.number.specs.Bytes.{part, AllBytes}
+use Rattle.number.specs.Bytes.{part}
 use Rattle.body.specs.declared.tag.Form.TheVariants.{Snapshot}
 use Rattle.body.specs.Tag.{kind_of}
 use Rattle.body.proofs.Digits.{snapshot_kind}
 use Rattle.field.specs.Cells.{Cell, cells, field}
 use Rattle.field.specs.Cells as run
 pub use Rattle.field.specs.Places.{key_in}
-use Rattle.field.specs.Run.{Run, done, more}
-use Rattle.field.proofs.Encode.{field_front, rest_bytes}
 use Rattle.payload.specs.Content.{Bytes, entry_of, cell_for}
 use Rattle.payload.specs.Payload.{entries, encode, items}
-use Rattle.payload.proofs.Back.{says_back}
-use Rattle.payload.proofs.Faithful.{run_back, entries_end, entries_more, read}
+use Rattle.payload.proofs.Faithful.{run_back, entries_end, read}
 use Rattle.item.specs.declared.place.Entry.{Entry}
 use Rattle.item.specs.declared.reading.Reading.TheVariants.{Announced}
 use Rattle.item.specs.declared.reading.Read.{Read}

@@ -8,7 +8,7 @@ use borrow.Author.Tests.{leb-true, leb-false, le-leb, lt-leb}
 use mir.Syntax.{w8, w64}
 use mir.Val.{Fits}
 use lib.Dec.{leb}
-use lib.ListN.{length, get_or, take, drop, replicate, length-replicate, get_or-replicate}
+use lib.ListN.{length, get_or, drop, replicate, length-replicate, get_or-replicate}
 use lib.Seq.{sets, sets-eq}
 use Rattle.order.specs.Comparison.{bytes}
 use Rattle.order.proofs.Never.{never}

@@ -37,7 +37,7 @@ use Rattle.heard.specs.Place.{key_at, announces_at, told_at, Payload}
 use Rattle.judge.specs.declared.find.Found.{Found}
 use Rattle.judge.specs.declared.write.Write.{Write}
 use Rattle.judge.specs.Walk.{follows, settle, settled}
-use Rattle.judge.specs.State.{Last, no, one, Next, Chain, end, on, last_of, Finds, Batched, settle_from, left_over, Written, Fitting, Ending, Writes, settled_field, Settles}
+use Rattle.judge.specs.State.{Last, no, one, Next, Chain, last_of, Finds, Batched, settle_from, left_over, Written, Fitting, Ending, Writes, settled_field, Settles}
 use Rattle.judge.proofs.Settled.{settle_end, settle_same, settle_other, settled_end, settled_more}
 use Rattle.judge.proofs.Sorting.{follows_same}
 use Rattle.judge.proofs.Finding.{encode_append, bytes_from}

@@ -1,7 +1,6 @@
 -- What `judge` answers, and what it leaves in `out`.
 use Rattle.std.specs.Prelude.{ℕ, List, [], map, cond, leb, length}
 use Rattle.change.specs.Change.{Change, announce, withdraw, update}
-use Rattle.serial.specs.declared.timing.Timing.{Timing}
 use Rattle.body.specs.declared.tag.Form.TheVariants.{Snapshot}
 use Rattle.payload.specs.Content.{Bytes}
 use Rattle.payload.specs.Payload.{encode, items}

@@ -1,5 +1,5 @@
 -- How far the walk of the messages over the snapshot has come.
-use Rattle.std.specs.Prelude.{ℕ, zero, suc, ◌+◌, ◌≤◌, ◌≡◌, List, [], ◌∷◌, ◌++◌, Bool, true, false, cond, eqb, ltb, leb, length, take, drop}
+use Rattle.std.specs.Prelude.{ℕ, zero, suc, ◌+◌, ◌≤◌, ◌≡◌, List, [], ◌∷◌, ◌++◌, Bool, true, cond, eqb, ltb, leb, length, take, drop}
 use Rattle.std.proofs.lemmas.List.Edits.{sets}
 use Rattle.order.specs.declared.Ordering.TheVariants.{Less}
 use Rattle.order.specs.Comparison.{bytes}
@@ -21,7 +21,7 @@ use Rattle.heard.specs.Heard.{HeardIs}
 use Rattle.heard.specs.Field.{record_field}
 use Rattle.heard.specs.Place.{size_at, key_at, announces_at, Payload, Messages}
 use Rattle.sorting.specs.Sorted.{sorted}
-use Rattle.batch.specs.Next.{is_above, left}
+use Rattle.batch.specs.Next.{is_above}
 use Rattle.batch.specs.Map.{Marked, Hinted, Mapped}
 use Rattle.judge.specs.declared.find.Found.{Found}
 use Rattle.judge.specs.declared.check.Check.{Check}

@@ -2,8 +2,7 @@
 use Rattle.std.specs.Prelude.{ℕ, List, [], ◌∷◌, Bool, true, false, not, cond, ◌&&◌, eqb, ltb}
 use Rattle.std.proofs.Math.Option.{Option, none, some}
 use Rattle.order.specs.Comparison.{bytes}
-use Rattle.order.specs.Map.{Item, lookup}
-use Rattle.change.specs.Change.{Change}
+use Rattle.order.specs.Map.{lookup}
 use Rattle.change.specs.Difference.{Snapshot, Delta}
 use Rattle.change.specs.Application.{is_equal}
 use Rattle.payload.specs.Content.{Bytes}

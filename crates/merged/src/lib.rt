@@ -1,4 +1,6 @@
 // The last deltas of a history, merged and written.
+#![tactic(auto)]
+
 pub mod last;
 pub mod lengths;
 pub mod place;

@@ -1,5 +1,5 @@
 -- Reading: the message at the front of bytes.
-use Rattle.std.specs.Prelude.{ℕ, ◌+◌, List, cond, ◌&&◌, leb, eqb, length, get_or, drop}
+use Rattle.std.specs.Prelude.{ℕ, ◌+◌, cond, ◌&&◌, leb, eqb, length, get_or, drop}
 use Rattle.std.proofs.Math.Option.{Option, none, some}
 use Rattle.number.specs.Number.{two_at, four_at}
 use Rattle.number.specs.Bytes.{part}

@@ -1,5 +1,5 @@
 -- What the versions of the protocol differ in.
-use Rattle.std.specs.Prelude.{ℕ, List, [], ◌++◌, Bool, leb, drop}
+use Rattle.std.specs.Prelude.{ℕ, List, [], ◌++◌, Bool, leb}
 use Rattle.serial.specs.declared.timing.Timing.{Timing}
 use Rattle.number.specs.Number.{four_at, four_bytes}
 use Rattle.message.specs.declared.version.Version.{Version}

@@ -1,2 +1,4 @@
 // The messages of the RPKI-to-Router protocol.
+#![tactic(auto)]
+
 pub mod version;

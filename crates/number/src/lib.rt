@@ -1,4 +1,6 @@
 // Numbers of several bytes: big-endian.
+#![tactic(auto)]
+
 ghost use Rattle.std.specs.Prelude.{◌≡◌, ◌+◌, ◌≤◌, ◌<◌, min, length};
 ghost use Rattle.order.specs.Comparison.{number};
 ghost use Rattle.number.specs.Number.{two_at, four_at, word_at, asn_at};

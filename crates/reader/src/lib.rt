@@ -1,4 +1,6 @@
 // The reader of a delta: the lent bytes, and where it stands in them.
+#![tactic(auto)]
+
 ghost use Rattle.std.specs.Prelude.{◌≡◌};
 ghost use Rattle.reader.specs.Step.{start, behind, found, stepped};
 

@@ -1,5 +1,5 @@
 -- What a router gets that reads the answers of a history, over every run of calls: demand 3 carried to the wire.
-use Rattle.std.specs.Prelude.{ℕ, ◌%◌, ◌^◌, ◌<◌, ◌≡◌, List, [], map, length, take}
+use Rattle.std.specs.Prelude.{ℕ, ◌^◌, ◌<◌, ◌≡◌, List, [], map, length, take}
 use Rattle.std.proofs.Math.Option.{some}
 use Rattle.order.specs.Comparison.{bytes}
 use Rattle.order.specs.Map.{All}

@@ -1,5 +1,5 @@
 -- Messages whose fields fit where they stand.
-use Rattle.std.specs.Prelude.{ℕ, ◌+◌, ◌^◌, ◌<◌, ◌≡◌, true, length}
+use Rattle.std.specs.Prelude.{◌^◌, ◌<◌, ◌≡◌, true, length}
 use Rattle.serial.specs.declared.timing.Timing.{Timing}
 use Rattle.message.specs.declared.version.Version.{Version}
 use Rattle.message.specs.declared.version.Version.TheVariants.{Rfc6810, Rfc8210}

@@ -1,1 +1,3 @@
+#![tactic(auto)]
+
 // What a router gets that reads the messages: definitions and proofs alone.

@@ -1,4 +1,6 @@
 // Serials, sessions and AS numbers: kinds of their own, so that none can be given for another.
+#![tactic(auto)]
+
 ghost use Rattle.std.specs.Prelude.{◌≡◌};
 ghost use Rattle.serial.specs.Serial.{next_of, distance_of, session_of};
 

@@ -1,4 +1,6 @@
 // Writes what changed from old.snap to new.snap: in this folder, or in each folder that an argument names, in turn.
+#![tactic(auto)]
+
 mod path;
 mod read;
 

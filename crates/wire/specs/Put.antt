@@ -16,7 +16,7 @@ use Rattle.message.specs.Message.{cache_response, end_of_data, pdu}
 use Rattle.delta.specs.declared.refusal.Refusal.TheVariants as refusal
 use Rattle.past.specs.declared.state.History.{History}
 use Rattle.past.specs.Store.{held_snapshot}
-use Rattle.cursors.specs.Cursor.{Bounded, left_of, runs}
+use Rattle.cursors.specs.Cursor.{Bounded, runs}
 use Rattle.wire.specs.declared.tally.Tally.{Tally}
 use Rattle.wire.specs.declared.frame.Frame.{Frame}
 use Rattle.wire.specs.declared.sent.Reply.TheVariants.{Data}

@@ -1,4 +1,6 @@
 // The answers of a history as messages of the RPKI-to-Router protocol.
+#![tactic(auto)]
+
 pub mod deltas;
 pub mod frame;
 pub mod full;

@@ -1,4 +1,4 @@
-use Rattle.std.proofs.Common.{◌-◌, length}
+use Rattle.std.proofs.Common.{◌-◌}
 use Rattle.merged.proofs.Placing.{Placing}
 use Rattle.merged.proofs.place.place_all.Given as goal
 

@@ -3,7 +3,7 @@ ghost use Rattle.std.specs.Prelude.{◌≡◌, length};
 ghost use Rattle.delta.specs.declared.admit.Admitted.TheVariants.{Yes};
 ghost use Rattle.past.specs.Store.{held_deltas};
 ghost use Rattle.past.specs.Query.{ask_admitted, merged_last};
-ghost use Rattle.appliance.specs.declared.turn.Known.TheVariants.{Nothing};
+ghost use Rattle.appliance.specs.declared.router_turn.Known.TheVariants.{Nothing};
 ghost use Rattle.appliance.specs.Turn.{refused_turn, shared_turn, shared_out, Shares, Takes, TurnIs};
 
 use crate::repeat::repeat;

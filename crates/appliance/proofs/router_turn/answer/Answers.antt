@@ -1,6 +1,6 @@
 use Rattle.std.proofs.Common.{rules}
 use Rattle.appliance.proofs.Turning.{answering}
-use Rattle.appliance.proofs.turn.answer.Goals as goal
+use Rattle.appliance.proofs.router_turn.answer.Goals as goal
 
 pub share-requires : goal.share-requires
 share-requires c = search (answering, rules)
