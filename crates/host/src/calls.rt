@@ -1,4 +1,4 @@
-// The exported functions.
+// The calls, as C makes them: the crate `host_c` exports each under its name.
 ghost use Rattle.std.specs.Prelude.{◌≡◌, length};
 ghost use Rattle.serial.specs.Timing.{timing_of};
 ghost use Rattle.delta.specs.Answer.{construct_of, construct_out, merge_of, merge_out, apply_of, apply_out};
@@ -39,52 +39,32 @@ use wire::full::full_messages;
 use wire::notify::notify_message;
 use wire::query::query_messages;
 
-#[unsafe(no_mangle)]
-pub extern "C" fn taplevung_construct(
-    old: &[u8],
-    new: &[u8],
-    serial: Serial,
-    out: &mut [u8],
-) -> Answer
+pub fn taplevung_construct(old: &[u8], new: &[u8], serial: Serial, out: &mut [u8]) -> Answer
     ensures { (result ≡ flat_constructed (construct_of old.now new.now serial (length out.old))) × (out.new ≡ construct_out old.now new.now out.old) }
 {
     constructed_as(construct(old, new, serial, out))
 }
 
-#[unsafe(no_mangle)]
-pub extern "C" fn taplevung_merge(
-    earlier: &[u8],
-    later: &[u8],
-    serial: Serial,
-    out: &mut [u8],
-) -> Answer
+pub fn taplevung_merge(earlier: &[u8], later: &[u8], serial: Serial, out: &mut [u8]) -> Answer
     ensures { (result ≡ flat_merged (merge_of earlier.now later.now serial (length out.old))) × (out.new ≡ merge_out earlier.now later.now out.old) }
 {
     merged_as(merge(earlier, later, serial, out))
 }
 
-#[unsafe(no_mangle)]
-pub extern "C" fn taplevung_apply(snapshot: &[u8], delta: &[u8], out: &mut [u8]) -> Answer
+pub fn taplevung_apply(snapshot: &[u8], delta: &[u8], out: &mut [u8]) -> Answer
     ensures { (result ≡ flat_applied (apply_of snapshot.now delta.now (length out.old))) × (out.new ≡ apply_out snapshot.now delta.now out.old) }
 {
     applied_as(apply(snapshot, delta, out))
 }
 
-#[unsafe(no_mangle)]
-pub extern "C" fn taplevung_judge(
-    version: u32,
-    snapshot: &[u8],
-    messages: &[u8],
-    out: &mut [u8],
-) -> Judged
+pub fn taplevung_judge(version: u32, snapshot: &[u8], messages: &[u8], out: &mut [u8]) -> Judged
     ensures { (result ≡ flat_judged (judge_of (version_of version) snapshot.now messages.now (length out.old))) × (out.new ≡ judge_out (version_of version) snapshot.now messages.now out.old) }
 {
     let v = version_of(version);
     judged_as(judge(v, snapshot, messages, out))
 }
 
-#[unsafe(no_mangle)]
-pub extern "C" fn taplevung_timing(refresh: u32, retry: u32, expire: u32) -> Timing
+pub fn taplevung_timing(refresh: u32, retry: u32, expire: u32) -> Timing
     ensures { result ≡ timing_of (record { refresh = refresh; retry = retry; expire = expire }) }
 {
     clamp(Timing {
@@ -94,8 +74,7 @@ pub extern "C" fn taplevung_timing(refresh: u32, retry: u32, expire: u32) -> Tim
     })
 }
 
-#[unsafe(no_mangle)]
-pub extern "C" fn taplevung_create(
+pub fn taplevung_create(
     session: u64,
     keep: u32,
     start: Serial,
@@ -107,21 +86,14 @@ pub extern "C" fn taplevung_create(
     created_as(create(session, keep, start, snapshots, deltas))
 }
 
-#[unsafe(no_mangle)]
-pub extern "C" fn taplevung_update(
-    state: State,
-    new: &[u8],
-    snapshots: &mut [u8],
-    deltas: &mut [u8],
-) -> Made
+pub fn taplevung_update(state: State, new: &[u8], snapshots: &mut [u8], deltas: &mut [u8]) -> Made
     ensures { (result ≡ made_updated state (update_of (history_of state) new.now snapshots.old deltas.old)) × ((snapshots.new ≡ update_snapshots (history_of state) new.now snapshots.old deltas.old) × (deltas.new ≡ update_deltas (history_of state) new.now snapshots.old deltas.old)) }
 {
     let h = history_of(state);
     updated_as(state, update_with(h, new, snapshots, deltas))
 }
 
-#[unsafe(no_mangle)]
-pub extern "C" fn taplevung_query(
+pub fn taplevung_query(
     state: State,
     session: Session,
     serial: Serial,
@@ -135,8 +107,7 @@ pub extern "C" fn taplevung_query(
     queried_as(query(h, session, serial, snapshots, deltas, out))
 }
 
-#[unsafe(no_mangle)]
-pub extern "C" fn taplevung_query_all(
+pub fn taplevung_query_all(
     state: State,
     snapshots: &[u8],
     deltas: &[u8],
@@ -149,32 +120,28 @@ pub extern "C" fn taplevung_query_all(
     replied_as(query_all(h, snapshots, deltas, queries, out))
 }
 
-#[unsafe(no_mangle)]
-pub extern "C" fn taplevung_full(state: State, snapshots: &[u8], deltas: &[u8]) -> Told
+pub fn taplevung_full(state: State, snapshots: &[u8], deltas: &[u8]) -> Told
     ensures { result ≡ told_full (full_of (history_of state) snapshots.now deltas.now) }
 {
     let h = history_of(state);
     told_full(full_answer(h, snapshots, deltas))
 }
 
-#[unsafe(no_mangle)]
-pub extern "C" fn taplevung_notify(state: State) -> Notice
+pub fn taplevung_notify(state: State) -> Notice
     ensures { result ≡ notify_of (history_of state) }
 {
     let h = history_of(state);
     notify(h)
 }
 
-#[unsafe(no_mangle)]
-pub extern "C" fn taplevung_ready(state: State) -> bool
+pub fn taplevung_ready(state: State) -> bool
     ensures { result ≡ ready_of (history_of state) }
 {
     let h = history_of(state);
     ready(h)
 }
 
-#[unsafe(no_mangle)]
-pub extern "C" fn taplevung_query_messages(
+pub fn taplevung_query_messages(
     version: u32,
     state: State,
     session: Session,
@@ -191,8 +158,7 @@ pub extern "C" fn taplevung_query_messages(
     sent_as(query_messages(v, h, session, serial, times, snapshots, deltas, out))
 }
 
-#[unsafe(no_mangle)]
-pub extern "C" fn taplevung_full_messages(
+pub fn taplevung_full_messages(
     version: u32,
     state: State,
     times: Timing,
@@ -207,8 +173,7 @@ pub extern "C" fn taplevung_full_messages(
     sent_as(full_messages(v, h, times, snapshots, deltas, out))
 }
 
-#[unsafe(no_mangle)]
-pub extern "C" fn taplevung_notify_message(version: u32, state: State, out: &mut [u8]) -> Sent
+pub fn taplevung_notify_message(version: u32, state: State, out: &mut [u8]) -> Sent
     ensures { (result ≡ flat_sent (sent_at (notify_plan (version_of version) (history_of state)) (length out.old))) × (out.new ≡ out_at (notify_plan (version_of version) (history_of state)) out.old) }
 {
     let v = version_of(version);
