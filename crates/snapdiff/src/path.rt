@@ -1,5 +1,5 @@
 // The path of a file in a folder.
-ghost use Rattle.std.specs.Prelude.{IfSome, ◌≤◌, length};
+ghost use Rattle.std.specs.Prelude.{IfSome, ◌≡◌, ◌≤◌, length, take, IsUtf8};
 ghost use Rattle.io.specs.Counts.{IsPrefixLen};
 
 use item::copy::copy;
@@ -39,6 +39,7 @@ pub fn join(path: &mut [u8], n: usize, name: &[u8]) -> usize
 // The first n bytes of path as a path; no path where they are not UTF-8.
 pub fn path_of(path: &[u8], n: usize) -> &str
     requires { n ≤ length path.now }
+    ensures { IsUtf8 (take n path.now) → result.now ≡ take n path.now }
 {
     match str::from_utf8(&path[..n]) {
         Ok(text) => text,
