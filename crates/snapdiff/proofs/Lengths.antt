@@ -19,6 +19,18 @@ module _ (s p t : List ℕ) (n k : ℕ) (e : p ≡ sets s n t) (h : n ≤ length
 
 pub ruleset joining = (join_within, join_long)
 
+-- arguments are taken up to their count
+pub record Counting (count i : ℕ) : Type 0 where
+  pub low : i ≤ count
+
+pub count_start : (count : ℕ) → 2 ≤ count → Counting count 1
+count_start count h = record { low = omega arith }
+
+pub count_again : (count i : ℕ) → i < count → Counting count (i + 1)
+count_again count i h = record { low = omega arith }
+
+pub ruleset counting = (count_start, count_again)
+
 -- so much of a buffer is filled
 pub record Filled (s : List ℕ) (n : ℕ) : Type 0 where
   pub low : n ≤ length s
