@@ -21,7 +21,6 @@ use Rattle.payload.specs.Payload.{encode, items}
 use Rattle.payload.specs.Valid.{Valid, IsMap}
 use Rattle.payload.proofs.Faithful.{faithful}
 use Rattle.payload.proofs.Closed.{diff_map, apply_map}
-use Rattle.delta.specs.declared.admit.Admitted.TheVariants.{Yes}
 use Rattle.delta.specs.Demand.{GoodSnapshot, Acceptable}
 use Rattle.delta.proofs.Differences.{empty_good, good_map}
 use Rattle.payload.specs.Written.{written_over}
@@ -31,7 +30,6 @@ use Rattle.message.specs.Say.{kind_in, spoken}
 use Rattle.message.specs.Hear.{Heard, ended, hear}
 use Rattle.message.specs.Take.{all, as_item, take}
 use Rattle.message.proofs.Spoken.{spoken_sorted}
-use Rattle.judge.specs.declared.judge.Judged.TheVariants.{Accepted}
 use Rattle.judge.specs.Answer.{counts_of, judge_admitted, result_of, judge_of, judge_out}
 use Rattle.judge.specs.Promise.{unspoken}
 use Rattle.judge.proofs.Results.{onward_spoken, onward_unspoken, onward_whole, onward_taken}
@@ -43,6 +41,7 @@ use Rattle.past.proofs.Steps.{fine_admitted}
 use Rattle.router.specs.Promise.{LeadsOn, query_in, full_in, written, Wire}
 use Rattle.router.proofs.Running.{wire}
 use Rattle.accepted.specs.Accepted.{Accepts, Judged, EveryJudged}
+use Rattle.std.specs.Prelude.{Ok}
 
 -- the items that a version speaks of are valid if all are
 spoken_valid : (v : Version) (D : change.Delta Bytes Bytes) → All (Valid Delta) D → All (Valid Delta) (spoken v D)
@@ -88,7 +87,7 @@ module _ (v : Version) (session : ℕ) (serial : Serial) (times : Timing) (base 
   taken : take A (hear v messages).told ≡ all B
   taken = onward_taken v A C map_a.sorted map_c.sorted (hear v messages).told told_is
 
-  admits : judge_admitted v base messages ≡ Yes
+  admits : judge_admitted v base messages ≡ Ok tt
   unfolding judge_admitted
   admits = rw (fine_admitted Snapshot base gb.short gb.good.fine, taken, stop_is_lem)
 
@@ -100,7 +99,7 @@ module _ (v : Version) (session : ℕ) (serial : Serial) (times : Timing) (base 
   says = (faithful Snapshot).map_back B map_b
 
   answers : (room : ℕ) → length (encode Snapshot B) ≤ room →
-      judge_of v base messages room ≡ Accepted (session_of session) serial (times_told v (timing_of times)) (counts_of (hear v messages).told (encode Snapshot B))
+      judge_of v base messages room ≡ Ok (record { session = session_of session; serial = serial; times = times_told v (timing_of times); counts = counts_of (hear v messages).told (encode Snapshot B) })
   unfolding judge_of
   answers room h = rw (admits, stop_is_lem, leaves, le-leb (length (encode Snapshot B)) room h)
 

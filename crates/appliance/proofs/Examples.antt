@@ -15,8 +15,8 @@ use Rattle.past.specs.WellFormed.{well_formed}
 use Rattle.past.specs.Create.{fresh_of}
 use Rattle.past.specs.Query.{merged_last, query_of, query_out}
 use Rattle.delta.specs.declared.refusal.Refusal.TheVariants.{OtherSession, NotServed, BadList, IllFormed}
-use Rattle.delta.specs.declared.admit.Admitted.TheVariants.{Yes, No}
 use Rattle.appliance.specs.QueryAll.{asked_by, good_list, list_admitted, served_at, refused_with, laid_of}
+use Rattle.std.specs.Prelude.{Err, Ok}
 
 -- the session 7 and the serial 9, in six bytes
 abbrev nine : Bytes
@@ -41,9 +41,9 @@ pub record Examples : Type 0 where
   pub many : good_list (replicate 2_310 0) ≡ false
   pub cut : good_list (0 ∷ nine) ≡ false
   -- 11 after 7
-  pub bad : list_admitted waiting [] [] (0 ∷ nine) ≡ No BadList
-  pub good : list_admitted waiting [] [] (nine ++ other) ≡ Yes
-  pub seven : list_admitted (fresh_of 65_543 0 (record { 0 = 9 })) [] [] (0 ∷ nine) ≡ No IllFormed
+  pub bad : list_admitted waiting [] [] (0 ∷ nine) ≡ Err BadList
+  pub good : list_admitted waiting [] [] (nine ++ other) ≡ Ok tt
+  pub seven : list_admitted (fresh_of 65_543 0 (record { 0 = 9 })) [] [] (0 ∷ nine) ≡ Err IllFormed
   -- a reply for each query, in order
   pub replies : laid_of waiting [] [] (asked_by (nine ++ other ++ (0 ∷ 7 ∷ 0 ∷ 0 ∷ 0 ∷ 8 ∷ []) ++ nine)) (5 ∷ [])
       ≡ record {

@@ -20,8 +20,6 @@ use Rattle.payload.specs.Content.{Bytes}
 use Rattle.payload.specs.Written.{written_over}
 use Rattle.delta.specs.declared.refusal.Refusal.{Refusal}
 use Rattle.delta.specs.declared.refusal.Refusal.TheVariants.{IllFormed, BadList}
-use Rattle.delta.specs.declared.admit.Admitted.{Admitted}
-use Rattle.delta.specs.declared.admit.Admitted.TheVariants.{Yes, No}
 use Rattle.delta.specs.Admission.{and_then}
 use Rattle.delta.specs.Answer.{out_after}
 use Rattle.past.specs.declared.state.History.{History}
@@ -37,15 +35,17 @@ use Rattle.appliance.specs.declared.router_turn.Turn.{Turn}
 use Rattle.appliance.specs.QueryAll.{Asked, asked_in, asked_first, asked_by, good_list, list_admitted, reply_of, used_by, Laid, answered, laid_of, no_reply, padded, refused_call, query_all_of, query_all_out}
 use Rattle.appliance.specs.Turn.{Remembers, Takes, TurnIs}
 use Rattle.appliance.proofs.Turning.{knows_nothing, knows_still}
+use Rattle.delta.specs.Admission.{Admitted}
+use Rattle.std.specs.Prelude.{Err, Ok}
 
 -- ---- what is admitted
 
-passed_both : (t u : Bool) → and_then (passes t IllFormed) (passes u BadList) ≡ Yes → (t ≡ true) × (u ≡ true)
+passed_both : (t u : Bool) → and_then (passes t IllFormed) (passes u BadList) ≡ Ok tt → (t ≡ true) × (u ≡ true)
 passed_both true true e = (refl, refl)
 passed_both true false e = never cc
 passed_both false u e = never cc
 
-module _ (h : History) (snapshots deltas queries : Bytes) (e : list_admitted h snapshots deltas queries ≡ Yes) where
+module _ (h : History) (snapshots deltas queries : Bytes) (e : list_admitted h snapshots deltas queries ≡ Ok tt) where
   formed : well_formed h snapshots deltas ≡ true
   formed = (passed_both (well_formed h snapshots deltas) (good_list queries) e).0
 
@@ -59,50 +59,50 @@ module _ (h : History) (snapshots deltas queries : Bytes) (e : list_admitted h s
 module _ (h : History) (snapshots deltas : Bytes) (f : well_formed h snapshots deltas ≡ true) (session : Session) (asked : Serial) (l : asked.0 < 2 ^ 32)
     (d : ℕ) (i : d ≡ min (distance_of h.newest asked) 64) where
   -- no served serial is further back than the deltas that are held
-  near : ask_admitted h session asked ≡ Yes → distance_of h.newest asked ≤ h.n
+  near : ask_admitted h session asked ≡ Ok tt → distance_of h.newest asked ≤ h.n
   near e =
-      let q : query_admitted h session asked snapshots deltas ≡ Yes = rw f e in
+      let q : query_admitted h session asked snapshots deltas ≡ Ok tt = rw f e in
       query_within h session asked snapshots deltas (query_admitted h session asked snapshots deltas) refl q (distance_of h.newest asked) refl l
 
-  steps_are : ask_admitted h session asked ≡ Yes → d ≡ distance_of h.newest asked
+  steps_are : ask_admitted h session asked ≡ Ok tt → d ≡ distance_of h.newest asked
   steps_are e = omega (arith, near e, (formed_stored h snapshots deltas f).few)
 
-  steps_within : ask_admitted h session asked ≡ Yes → d ≤ h.n
+  steps_within : ask_admitted h session asked ≡ Ok tt → d ≤ h.n
   steps_within e = omega (arith, near e, steps_are e)
 
   single : (room : ℕ) → query_of h session asked snapshots deltas room ≡ query_at (ask_admitted h session asked) h (merged_last d (held_deltas h deltas)) room
   unfolding query_of
   single room = rw f (go (ask_admitted h session asked) steps_are)
     where
-      go : (x : Admitted) → (x ≡ Yes → d ≡ distance_of h.newest asked) →
+      go : (x : Admitted) → (x ≡ Ok tt → d ≡ distance_of h.newest asked) →
           query_at x h (merged_last (distance_of h.newest asked) (held_deltas h deltas)) room ≡ query_at x h (merged_last d (held_deltas h deltas)) room
-      go Yes s = let z = s refl in rw (← z)
-      go (No r) s = refl
+      go (Ok tt) s = let z = s refl in rw (← z)
+      go (Err r) s = refl
 
   single_out : (out : Bytes) → query_out h session asked snapshots deltas out ≡ out_after (ask_admitted h session asked) (merged_last d (held_deltas h deltas)) out
   unfolding query_out
   single_out out = rw f (go (ask_admitted h session asked) steps_are)
     where
-      go : (x : Admitted) → (x ≡ Yes → d ≡ distance_of h.newest asked) →
+      go : (x : Admitted) → (x ≡ Ok tt → d ≡ distance_of h.newest asked) →
           out_after x (merged_last (distance_of h.newest asked) (held_deltas h deltas)) out ≡ out_after x (merged_last d (held_deltas h deltas)) out
-      go Yes s = let z = s refl in rw (← z)
-      go (No r) s = refl
+      go (Ok tt) s = let z = s refl in rw (← z)
+      go (Err r) s = refl
 
 -- ---- how much a turn uses
 
 pub out_length : (x : Admitted) (b o : Bytes) → length (out_after x b o) ≡ length o
-out_length (No r) b o = refl
-out_length Yes b o = go (leb (length b) (length o)) refl
+out_length (Err r) b o = refl
+out_length (Ok tt) b o = go (leb (length b) (length o)) refl
   where
     go : (t : Bool) → leb (length b) (length o) ≡ t → length (cond t (written_over b o) o) ≡ length o
     go true e = let m = leb-true (length b) (length o) e in length-append b (drop (length b) o) ∙ omega (arith, length-drop (length b) o)
     go false e = refl
 
 pub used_within : (x : Admitted) (h : History) (b : Bytes) (room : ℕ) → used_by (query_at x h b room).answer ≤ room
-used_within (No r) h b room = omega arith
-used_within Yes h b room = go (leb (length b) room) refl
+used_within (Err r) h b room = omega arith
+used_within (Ok tt) h b room = go (leb (length b) room) refl
   where
-    go : (t : Bool) → leb (length b) room ≡ t → used_by (query_at Yes h b room).answer ≤ room
+    go : (t : Bool) → leb (length b) room ≡ t → used_by (query_at (Ok tt) h b room).answer ≤ room
     go true e = rw e (leb-true (length b) room e)
     go false e = rw e (omega arith)
 
@@ -145,7 +145,7 @@ asked_is s n session asked e f =
 
 -- the first k queries are answered: to answer those that are left from here gives what to answer all of them gives
 pub record Gathering (h : History) (snapshots deltas queries out₀ : Bytes) (count : ℕ) (replies : List Reply) (table : List Known) (used k : ℕ) (out : Bytes) : Type 0 where
-  pub admitted : list_admitted h snapshots deltas queries ≡ Yes
+  pub admitted : list_admitted h snapshots deltas queries ≡ Ok tt
   pub many : count ≡ length queries / 6
   pub passed : k ≤ count
   pub len : length out ≡ length out₀
@@ -159,7 +159,7 @@ pub record Gathering (h : History) (snapshots deltas queries out₀ : Bytes) (co
       ≡ laid_of h snapshots deltas (asked_by queries) out₀
 
 module _ (h : History) (snapshots deltas queries : Bytes) (x : Admitted) (e : x ≡ list_admitted h snapshots deltas queries) where
-  module _ (r : Refusal) (q : x ≡ No r) where
+  module _ (r : Refusal) (q : x ≡ Err r) where
     pub all_refused : (a : Replied) (out : Bytes) → a ≡ refused_call r → a ≡ query_all_of h snapshots deltas queries out
     unfolding query_all_of
     all_refused a out i = rw (← e, q) i
@@ -168,7 +168,7 @@ module _ (h : History) (snapshots deltas queries : Bytes) (x : Admitted) (e : x 
     unfolding query_all_out
     all_kept out = rw (← e, q)
 
-  pub gather_start : x ≡ Yes → (out : Bytes) (none : Reply) → none ≡ no_reply →
+  pub gather_start : x ≡ Ok tt → (out : Bytes) (none : Reply) → none ≡ no_reply →
       Gathering h snapshots deltas queries out (length queries / 6) (replicate 384 none) (replicate 65 Nothing) 0 0 out
   unfolding laid_of
   gather_start q out none i =
@@ -202,7 +202,7 @@ module _ (h : History) (snapshots deltas queries out₀ : Bytes) (count : ℕ) (
   gather_count = record { fits = omega (arith, fits_list) }
 
   pub gather_done : count ≤ k → (s : Session) → s ≡ session_of h.session →
-      record { admitted = Yes; session = s; serial = h.newest; used = used; count = count; replies = replies } ≡ query_all_of h snapshots deltas queries out₀
+      record { admitted = Ok tt; session = s; serial = h.newest; used = used; count = count; replies = replies } ≡ query_all_of h snapshots deltas queries out₀
   unfolding query_all_of
   gather_done p s e =
       let z : count - k ≡ 0 = omega arith in

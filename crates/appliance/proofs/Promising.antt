@@ -11,8 +11,6 @@ use Rattle.payload.specs.Content.{Bytes}
 use Rattle.item.specs.declared.sink.Counts.{Counts}
 use Rattle.delta.specs.declared.refusal.Refusal.{Refusal}
 use Rattle.past.specs.declared.state.History.{History}
-use Rattle.past.specs.declared.query.Answer.{Answer}
-use Rattle.past.specs.declared.query.Answer.TheVariants.{Refused, Served}
 use Rattle.past.specs.Query.{answer_of, query_of, query_out, query_admitted}
 use Rattle.past.specs.Run.{Reached}
 use Rattle.past.specs.Promise.{Promise}
@@ -23,6 +21,7 @@ use Rattle.appliance.specs.QueryAll.{Asked, reply_of, used_by, answer_at, Laid, 
 use Rattle.appliance.specs.Promise.{Each, Refuses, EveryQuery, EveryRefusal, Appliance, EveryAppliance}
 use Rattle.appliance.proofs.Gathering.{out_length, used_within}
 use Rattle.appliance.proofs.Repeating.{part_same}
+use Rattle.std.specs.Prelude.{Err, Ok, Result}
 
 -- a fold in two parts
 fold_append : (f : Laid → Asked → Laid) (l : Laid) (ps qs : List Asked) → foldl f l (ps ++ qs) ≡ foldl f (foldl f l ps) qs
@@ -72,7 +71,7 @@ module _ (h : History) (snapshots deltas : Bytes) where
     abbrev O : Bytes
     O = query_out h q.session q.serial snapshots deltas lent
 
-    abbrev A : Answer
+    abbrev A : Result Counts Refusal
     A = answer_at h snapshots deltas q l.used l.out
 
     front_length : length (take l.used l.out) ≡ l.used
@@ -87,12 +86,12 @@ module _ (h : History) (snapshots deltas : Bytes) where
     unfolding query_of
     used_room = used_within (query_admitted h q.session q.serial snapshots deltas) h (answer_of h q.serial deltas) (length lent)
 
-    past_used : (a : Answer) → A ≡ a → drop (used_by a) O ≡ drop (used_by a) lent
-    past_used (Served c) e =
+    past_used : (a : Result Counts Refusal) → A ≡ a → drop (used_by a) O ≡ drop (used_by a) lent
+    past_used (Ok c) e =
         let n : c.len ≡ length (answer_of h q.serial deltas) = ap (λ (y : Counts). y.len) (counts_served h q.session q.serial snapshots deltas lent c e) in
         ap (drop c.len) (out_whole h q.session q.serial snapshots deltas lent c e)
         ∙ rw n (drop-append_seam (answer_of h q.serial deltas) (drop (length (answer_of h q.serial deltas)) lent))
-    past_used (Refused r) e = out_refused h q.session q.serial snapshots deltas lent r e
+    past_used (Err r) e = out_refused h q.session q.serial snapshots deltas lent r e
 
     next_long : length (take l.used l.out ++ O) ≡ length l.out
     next_long = length-append (take l.used l.out) O ∙ omega (arith, front_length, out_long, length-drop l.used l.out, p)
@@ -113,7 +112,7 @@ module _ (h : History) (snapshots deltas : Bytes) where
       same = λ i z j. get_or-append l.replies (reply_of l.used A ∷ []) z i j;
     }
 
-    refused_one : (r : Refusal) → A ≡ Refused r → Refuses l (F l q)
+    refused_one : (r : Refusal) → A ≡ Err r → Refuses l (F l q)
     refused_one r e = record {
       used = rw e (omega arith);
       out = ap (λ (y : Bytes). take l.used l.out ++ y) (out_refused h q.session q.serial snapshots deltas lent r e) ∙ take-append-drop l.used l.out;
@@ -163,7 +162,7 @@ module _ (h : History) (snapshots deltas : Bytes) where
           (finish.same (length L.replies) z (omega (arith, length-append L.replies (reply_of L.used (answer_at h snapshots deltas q L.used L.out) ∷ [])))
           ∙ get_or-append_seam L.replies (reply_of L.used (answer_at h snapshots deltas q L.used L.out)) [] z);
       bytes = λ c e.
-          let f : answer_at h snapshots deltas q L.used L.out ≡ Served c = answer_is ∙ e in
+          let f : answer_at h snapshots deltas q L.used L.out ≡ Ok c = answer_is ∙ e in
           let n : (F L q).used ≡ L.used + c.len = rw f in
           let t : take (L.used + c.len) M.out ≡ take (L.used + c.len) (F L q).out =
           front_of_lem M.out (F L q).out (F L q).used (L.used + c.len) (omega (arith, n)) finish.front in

@@ -4,37 +4,17 @@ use mathlib.Core.Path.{◌≡◌}
 use mathlib.Core.Bool.{Bool, true, false, not}
 use native.Mathlib.Omega.{arith}
 use lib.Dec.{eqb}
-use lib.ListN.{length, replicate}
+use lib.ListN.{length}
 use borrow.Author.Tests.{not-true, not-false, le-leb, lt-leb}
 use Rattle.serial.specs.declared.Serial.{Serial}
 use Rattle.serial.specs.declared.Session.{Session}
-use Rattle.serial.specs.Serial.{zero_serial, zero_session}
 use Rattle.number.specs.Number.{two_at, four_at}
 use Rattle.payload.specs.Content.{Bytes}
-use Rattle.delta.specs.declared.refusal.Refusal.{Refusal}
 use Rattle.delta.specs.declared.refusal.Refusal.TheVariants.{IllFormed, BadList}
-use Rattle.delta.specs.declared.admit.Admitted.TheVariants.{Yes, No}
-use Rattle.delta.specs.Refusal.{number_of}
 use Rattle.past.specs.declared.state.History.{History}
 use Rattle.past.specs.WellFormed.{well_formed}
-use Rattle.appliance.specs.declared.reply.Reply.{Reply}
-use Rattle.appliance.specs.declared.router_turn.Known.{Known}
-use Rattle.appliance.specs.QueryAll.{good_list, list_admitted, no_reply, refused_with, refused_call}
-use Rattle.appliance.specs.Turn.{refused_turn}
-
--- ---- replies
-
-pub refused_is : (r : Refusal) (n : ℕ) → n ≡ number_of r → record { kind = 0; number = n; offset = 0; length = 0; announced = 0; withdrawn = 0 } ≡ refused_with r
-refused_is r n e = λ i. record { kind = 0; number = e i; offset = 0; length = 0; announced = 0; withdrawn = 0 }
-
-pub turn_refused : (r : Refusal) (k : Known) (used : ℕ) (a : Reply) → a ≡ refused_with r → record { known = k; reply = a; used = used } ≡ refused_turn r k used
-turn_refused r k used a e = λ i. record { known = k; reply = e i; used = used }
-
-pub call_refused : (r : Refusal) (a : Reply) → a ≡ no_reply →
-    record { admitted = No r; session = zero_session; serial = zero_serial; used = 0; count = 0; replies = replicate 384 a } ≡ refused_call r
-call_refused r a e = rw e
-
-pub ruleset replying = (refused_is, turn_refused, call_refused)
+use Rattle.appliance.specs.QueryAll.{good_list, list_admitted}
+use Rattle.std.specs.Prelude.{Err, Ok}
 
 -- ---- the list
 
@@ -58,14 +38,14 @@ module _ (s : Bytes) (i high low : ℕ) (a : high ≡ two_at s i) (b : low ≡ t
   serial_small m n = omega arith
 
 module _ (h : History) (snapshots deltas queries : Bytes) (t : Bool) (e : t ≡ well_formed h snapshots deltas) where
-  pub list_formed : not t ≡ true → No IllFormed ≡ list_admitted h snapshots deltas queries
+  pub list_formed : not t ≡ true → Err IllFormed ≡ list_admitted h snapshots deltas queries
   list_formed q = rw (← e, not-true t q)
 
   module _ (q : not t ≡ false) (u : Bool) (f : u ≡ good_list queries) where
-    pub list_bad : not u ≡ true → No BadList ≡ list_admitted h snapshots deltas queries
+    pub list_bad : not u ≡ true → Err BadList ≡ list_admitted h snapshots deltas queries
     list_bad p = rw (← e, not-false t q, ← f, not-true u p)
 
-    pub list_good : not u ≡ false → Yes ≡ list_admitted h snapshots deltas queries
+    pub list_good : not u ≡ false → (Ok tt) ≡ list_admitted h snapshots deltas queries
     list_good p = rw (← e, not-false t q, ← f, not-false u p)
 
 pub ruleset listing = (list_long, list_whole, session_is, serial_is, serial_small, list_formed, list_bad, list_good)

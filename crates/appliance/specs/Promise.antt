@@ -1,14 +1,11 @@
 -- What is promised of the queries of an appliance.
-use Rattle.std.specs.Prelude.{ℕ, ◌^◌, ◌≤◌, ◌<◌, ◌≡◌, List, [], ◌∷◌, ◌++◌, true, length, get_or, take, drop}
+use Rattle.std.specs.Prelude.{ℕ, ◌^◌, ◌≤◌, ◌<◌, ◌≡◌, List, [], ◌∷◌, ◌++◌, true, length, get_or, take, drop, Ok, Err}
 use Rattle.order.specs.Map.{All}
 use Rattle.serial.specs.declared.Serial.{Serial}
 use Rattle.payload.specs.Content.{Bytes}
 use Rattle.item.specs.declared.sink.Counts.{Counts}
 use Rattle.delta.specs.declared.refusal.Refusal.{Refusal}
-use Rattle.delta.specs.declared.admit.Admitted.TheVariants.{Yes}
 use Rattle.past.specs.declared.state.History.{History}
-use Rattle.past.specs.declared.create.Creation.TheVariants.{Done}
-use Rattle.past.specs.declared.query.Answer.TheVariants.{Refused, Served}
 use Rattle.past.specs.Create.{create_of}
 use Rattle.past.specs.Query.{query_out}
 use Rattle.past.specs.Run.{Call, Reached, start_of, run_of}
@@ -21,7 +18,7 @@ pub record Each (h : History) (snapshots deltas : Bytes) (q : Asked) (place : �
   -- its reply is the single query's, lent the output still unused: it depends on the others through the room alone
   pub reply : (z : Reply) → get_or all.replies place z ≡ reply_of left.used (answer_at h snapshots deltas q left.used out)
   -- the bytes at a served reply's offset are those that the single query writes
-  pub bytes : (c : Counts) → answer_at h snapshots deltas q left.used out ≡ Served c →
+  pub bytes : (c : Counts) → answer_at h snapshots deltas q left.used out ≡ Ok c →
       take c.len (drop left.used all.out) ≡ take c.len (query_out h q.session q.serial snapshots deltas (drop left.used out))
   -- what is not used of the output is as it was
   pub within : all.used ≤ length out
@@ -39,20 +36,20 @@ EveryQuery = (h : History) (snapshots deltas : Bytes) (before : List Asked) (q :
 
 abbrev pub EveryRefusal : Type 0
 EveryRefusal = (h : History) (snapshots deltas : Bytes) (before : List Asked) (q : Asked) (out : Bytes) (r : Refusal) →
-    answer_at h snapshots deltas q (laid_of h snapshots deltas before out).used out ≡ Refused r →
+    answer_at h snapshots deltas q (laid_of h snapshots deltas before out).used out ≡ Err r →
     Refuses (laid_of h snapshots deltas before out) (laid_of h snapshots deltas (before ++ (q ∷ [])) out)
 
 -- in a run of calls from a fresh history
 pub record Appliance (start : Serial) (r : Reached) : Type 0 where
   -- 7 never comes, and so 11 comes exactly for a bad list
-  pub admits : (queries : Bytes) → good_list queries ≡ true → list_admitted r.world.history r.world.snapshots r.world.deltas queries ≡ Yes
+  pub admits : (queries : Bytes) → good_list queries ≡ true → list_admitted r.world.history r.world.snapshots r.world.deltas queries ≡ Ok tt
   -- once a first snapshot is accepted, the bytes at each served reply's offset lead its router to the current snapshot
   pub leads : (before : List Asked) (q : Asked) (after : List Asked) (out : Bytes) (c : Counts) → q.serial.0 < 2 ^ 32 → ¬ (r.given ≡ []) →
-      answer_at r.world.history r.world.snapshots r.world.deltas q (laid_of r.world.history r.world.snapshots r.world.deltas before out).used out ≡ Served c →
+      answer_at r.world.history r.world.snapshots r.world.deltas q (laid_of r.world.history r.world.snapshots r.world.deltas before out).used out ≡ Ok c →
       Leads start r.given (current r.world) q.serial
       (take c.len (drop (laid_of r.world.history r.world.snapshots r.world.deltas before out).used
       (laid_of r.world.history r.world.snapshots r.world.deltas (before ++ (q ∷ after)) out).out))
 
 abbrev pub EveryAppliance : Type 0
-EveryAppliance = (session keep : ℕ) (start : Serial) (snapshots deltas : Bytes) → start.0 < 2 ^ 32 → (create_of session keep start snapshots deltas).answer ≡ Done →
+EveryAppliance = (session keep : ℕ) (start : Serial) (snapshots deltas : Bytes) → start.0 < 2 ^ 32 → (create_of session keep start snapshots deltas).answer ≡ Ok tt →
     (calls : List Call) → All OfBytes calls → Appliance start (run_of (start_of session keep start snapshots deltas) calls)

@@ -1,5 +1,5 @@
 -- The queries of a whole appliance: each is the single query, lent the output still unused.
-use Rattle.std.specs.Prelude.{ℕ, zero, suc, ◌+◌, ◌-◌, ◌/◌, ◌%◌, Bool, ◌&&◌, leb, eqb, length, take, drop, replicate}
+use Rattle.std.specs.Prelude.{ℕ, zero, suc, ◌+◌, ◌-◌, ◌/◌, ◌%◌, Bool, ◌&&◌, leb, eqb, length, take, drop, replicate, Err, Ok, Result}
 use mathlib.Core.List.{List, [], ◌∷◌, ◌++◌, foldl}
 use Rattle.serial.specs.declared.Serial.{Serial}
 use Rattle.serial.specs.declared.Session.{Session}
@@ -9,17 +9,14 @@ use Rattle.payload.specs.Content.{Bytes}
 use Rattle.item.specs.declared.sink.Counts.{Counts}
 use Rattle.delta.specs.declared.refusal.Refusal.{Refusal}
 use Rattle.delta.specs.declared.refusal.Refusal.TheVariants.{IllFormed, BadList}
-use Rattle.delta.specs.declared.admit.Admitted.{Admitted}
-use Rattle.delta.specs.declared.admit.Admitted.TheVariants.{Yes, No}
 use Rattle.delta.specs.Refusal.{number_of}
 use Rattle.delta.specs.Admission.{and_then}
 use Rattle.past.specs.declared.state.History.{History}
-use Rattle.past.specs.declared.query.Answer.{Answer}
-use Rattle.past.specs.declared.query.Answer.TheVariants.{Refused, Served}
 use Rattle.past.specs.WellFormed.{well_formed}
 use Rattle.past.specs.Query.{passes, query_of, query_out}
 use Rattle.appliance.specs.declared.reply.Reply.{Reply}
 use Rattle.appliance.specs.declared.reply.Replied.{Replied}
+use Rattle.delta.specs.Admission.{Admitted}
 
 -- ---- the list
 
@@ -60,14 +57,14 @@ abbrev pub refused_with : Refusal → Reply
 refused_with r = record { kind = 0; number = number_of r; offset = 0; length = 0; announced = 0; withdrawn = 0 }
 
 -- the reply to a query that was lent the output from `at` on
-abbrev pub reply_of : ℕ → Answer → Reply
-reply_of at (Served c) = served_at at c
-reply_of at (Refused r) = refused_with r
+abbrev pub reply_of : ℕ → Result Counts Refusal → Reply
+reply_of at (Ok c) = served_at at c
+reply_of at (Err r) = refused_with r
 
 -- how much of the output an answer uses: a refused one nothing
-abbrev pub used_by : Answer → ℕ
-used_by (Served c) = c.len
-used_by (Refused r) = 0
+abbrev pub used_by : Result Counts Refusal → ℕ
+used_by (Ok c) = c.len
+used_by (Err r) = 0
 
 -- the replies so far, how much of the output they use, and the output
 pub record Laid : Type 0 where
@@ -76,7 +73,7 @@ pub record Laid : Type 0 where
   pub out : Bytes
 
 -- the single query's answer where so much of the output is used
-abbrev pub answer_at : History → Bytes → Bytes → Asked → ℕ → Bytes → Answer
+abbrev pub answer_at : History → Bytes → Bytes → Asked → ℕ → Bytes → Result Counts Refusal
 answer_at h snapshots deltas q used out = (query_of h q.session q.serial snapshots deltas (length (drop used out))).answer
 
 -- and the output that it leaves
@@ -111,12 +108,12 @@ padded rs = rs ++ replicate (384 - length rs) no_reply
 
 -- a refused call: all else 0
 abbrev pub refused_call : Refusal → Replied
-refused_call r = record { admitted = No r; session = zero_session; serial = zero_serial; used = 0; count = 0; replies = padded [] }
+refused_call r = record { admitted = Err r; session = zero_session; serial = zero_serial; used = 0; count = 0; replies = padded [] }
 
 -- the 16-bit session and F, how much of the output is used, and the replies
 abbrev pub replied_by : Admitted → History → Laid → Replied
-replied_by (No r) h l = refused_call r
-replied_by Yes h l = record { admitted = Yes; session = session_of h.session; serial = h.newest; used = l.used; count = length l.replies; replies = padded l.replies }
+replied_by (Err r) h l = refused_call r
+replied_by (Ok tt) h l = record { admitted = Ok tt; session = session_of h.session; serial = h.newest; used = l.used; count = length l.replies; replies = padded l.replies }
 
 -- history, the two stores (which stay as they were), the list, the output
 unfoldable pub query_all_of : History → Bytes → Bytes → Bytes → Bytes → Replied
@@ -125,8 +122,8 @@ query_all_of h snapshots deltas queries out =
 
 -- the output afterwards: of a refused call as it was
 abbrev pub out_by : Admitted → Laid → Bytes → Bytes
-out_by (No r) l out = out
-out_by Yes l out = l.out
+out_by (Err r) l out = out
+out_by (Ok tt) l out = l.out
 
 unfoldable pub query_all_out : History → Bytes → Bytes → Bytes → Bytes → Bytes
 query_all_out h snapshots deltas queries out =

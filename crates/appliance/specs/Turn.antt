@@ -1,12 +1,10 @@
 -- One query in the code: what is known of the answer at its distance, and what the turn does.
-use Rattle.std.specs.Prelude.{ℕ, ◌+◌, ◌-◌, ◌≤◌, ◌<◌, ◌≡◌, ◌++◌, cond, leb, length, take, drop}
+use Rattle.std.specs.Prelude.{ℕ, ◌+◌, ◌-◌, ◌≤◌, ◌<◌, ◌≡◌, ◌++◌, cond, leb, length, take, drop, Ok}
 use Rattle.std.proofs.lemmas.List.Edits.{sets}
 use Rattle.payload.specs.Content.{Bytes}
 use Rattle.item.specs.declared.sink.Counts.{Counts}
 use Rattle.delta.specs.declared.refusal.Refusal.{Refusal}
 use Rattle.delta.specs.declared.refusal.Refusal.TheVariants.{NoRoom}
-use Rattle.delta.specs.declared.admit.Admitted.{Admitted}
-use Rattle.delta.specs.declared.admit.Admitted.TheVariants.{Yes}
 use Rattle.delta.specs.Answer.{counts_of, out_after}
 use Rattle.past.specs.declared.state.History.{History}
 use Rattle.past.specs.Store.{held_deltas}
@@ -16,6 +14,7 @@ use Rattle.appliance.specs.declared.router_turn.Known.{Known}
 use Rattle.appliance.specs.declared.router_turn.Known.TheVariants.{Long, Stands}
 use Rattle.appliance.specs.declared.router_turn.Turn.{Turn}
 use Rattle.appliance.specs.QueryAll.{served_at, refused_with, reply_of, used_by}
+use Rattle.delta.specs.Admission.{Admitted}
 
 -- n bytes at `from` lie below i, where there is room for them
 pub record Apart (o : Bytes) (from i n : ℕ) : Type 0 where
@@ -36,7 +35,7 @@ pub record Remembers (b : Bytes) (used : ℕ) (out : Bytes) (k : Known) : Type 0
 -- what a turn takes: x is what the query's tests say, d its distance where they let it pass
 pub record Takes (x : Admitted) (h : History) (d : ℕ) (deltas : Bytes) (k : Known) (used : ℕ) (out : Bytes) : Type 0 where
   pub stored : Stored deltas h.deltas h.n
-  pub within : x ≡ Yes → d ≤ h.n
+  pub within : x ≡ Ok tt → d ≤ h.n
   pub room : used ≤ length out
   pub known : Remembers (merged_last d (held_deltas h deltas)) used out k
 

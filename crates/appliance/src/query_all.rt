@@ -6,10 +6,8 @@ ghost use Rattle.appliance.specs.QueryAll.{good_list, list_admitted, no_reply, r
 
 use crate::reply::{Replied, Reply};
 use crate::router_turn::{Known, reply_to};
-use delta::admit::Admitted;
 use delta::refusal::Refusal;
 use history::well_formed::well_formed;
-use merged::lengths::wide;
 use number::two_at;
 use past::state::History;
 use serial::{Serial, Session, distance, session16};
@@ -35,7 +33,7 @@ fn refused(refusal: Refusal) -> Replied
     let none = no_reply();
     let replies = [none; 384];
     Replied {
-        admitted: Admitted::No(refusal),
+        admitted: Err(refusal),
         session: Session(0),
         serial: Serial(0),
         used: 0,
@@ -48,23 +46,25 @@ fn refused(refusal: Refusal) -> Replied
 fn good_list(queries: &[u8]) -> bool
     ensures { result ≡ good_list queries.now }
 {
-    if queries.len() > 2304 {
-        return false;
-    }
-    queries.len() % 6 == 0
+    queries.len() <= 2304 && queries.len() % 6 == 0
 }
 
 // Refusals 7 and 11.
-fn admit_list(history: History, snapshots: &[u8], deltas: &[u8], queries: &[u8]) -> Admitted
+fn admit_list(
+    history: History,
+    snapshots: &[u8],
+    deltas: &[u8],
+    queries: &[u8],
+) -> Result<(), Refusal>
     ensures { result ≡ list_admitted history snapshots.now deltas.now queries.now }
 {
     if !well_formed(history, snapshots, deltas) {
-        return Admitted::No(Refusal::IllFormed);
+        return Err(Refusal::IllFormed);
     }
     if !good_list(queries) {
-        return Admitted::No(Refusal::BadList);
+        return Err(Refusal::BadList);
     }
-    Admitted::Yes
+    Ok(())
 }
 
 // The session at i.
@@ -90,11 +90,7 @@ fn serial_at(s: &[u8], i: usize) -> Serial
 fn steps(newest: Serial, asked: Serial) -> u32
     ensures { result ≡ min (distance_of newest asked) 64 }
 {
-    let d = distance(newest, asked);
-    if d < 64 {
-        return d;
-    }
-    64
+    distance(newest, asked).min(64)
 }
 
 // Each query of the list as if asked alone, with the output still unused.
@@ -107,7 +103,7 @@ pub fn query_all(
 ) -> Replied
     ensures { (result ≡ query_all_of history snapshots.now deltas.now queries.now out.old) × (out.new ≡ query_all_out history snapshots.now deltas.now queries.now out.old) }
 {
-    if let Admitted::No(refusal) = admit_list(history, snapshots, deltas, queries) {
+    if let Err(refusal) = admit_list(history, snapshots, deltas, queries) {
         return refused(refusal);
     }
     let none = no_reply();
@@ -116,24 +112,19 @@ pub fn query_all(
     let mut replies = [none; 384];
     let mut table = [Known::Nothing; 65];
     let mut used = 0;
-    let mut k = 0;
-    while k < count {
+    for k in 0..count {
         let session = session_at(queries, 6 * k);
         let asked = serial_at(queries, 6 * k + 2);
         let d = steps(newest, asked);
-        let i = wide(d);
-        let before = table[i];
-        let t = reply_to(history, session, asked, d, deltas, before, used, out);
-        let known = t.known;
-        let reply = t.reply;
-        table[i] = known;
-        replies[k] = reply;
+        let i = d as usize;
+        let t = reply_to(history, session, asked, d, deltas, table[i], used, out);
+        table[i] = t.known;
+        replies[k] = t.reply;
         used = t.used;
-        k += 1;
     }
     let session = session16(history.session);
     Replied {
-        admitted: Admitted::Yes,
+        admitted: Ok(()),
         session,
         serial: newest,
         used,

@@ -16,6 +16,7 @@ fn repeat_eight(out: &mut [u8], from: usize, i: usize)
 }
 
 // Of the n bytes at `from`, as many as are eights go to i: how many bytes that is.
+// Kept: as `copy_eights`, within one slice: two lent slices cannot be the same.
 fn repeat_eights(out: &mut [u8], from: usize, i: usize, n: usize) -> usize
     requires { Apart out.old from i n }
     ensures { (result ≤ n) × (out.new ≡ sets out.old i (take result (drop from out.old))) }
@@ -33,10 +34,8 @@ fn repeat_bytes(out: &mut [u8], from: usize, i: usize, n: usize)
     requires { Apart out.old from i n }
     ensures { out.new ≡ sets out.old i (take n (drop from out.old)) }
 {
-    let mut k = 0;
-    while k < n {
+    for k in 0..n {
         out[i + k] = out[from + k];
-        k += 1;
     }
 }
 

@@ -2,7 +2,6 @@
 ghost use Rattle.std.specs.Prelude.{◌≡◌};
 ghost use Rattle.appliance.specs.QueryAll.{served_at, refused_with};
 
-use delta::admit::Admitted;
 use delta::refusal::Refusal;
 use item::sink::Counts;
 use serial::{Serial, Session};
@@ -20,9 +19,10 @@ pub struct Reply {
 }
 
 // The call's refusal, or a reply for each query, in order; those past the count are zeros.
+// Kept: 384 replies and how many of them count, since C gets them by value.
 #[derive(Drop)]
 pub struct Replied {
-    pub admitted: Admitted,
+    pub admitted: Result<(), Refusal>,
     pub session: Session,
     pub serial: Serial,
     pub used: usize,

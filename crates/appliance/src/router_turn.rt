@@ -1,6 +1,5 @@
 // One query: what is known of the answer at its distance is used, else the deltas are walked.
 ghost use Rattle.std.specs.Prelude.{◌≡◌, length};
-ghost use Rattle.delta.specs.declared.admit.Admitted.TheVariants.{Yes};
 ghost use Rattle.past.specs.Store.{held_deltas};
 ghost use Rattle.past.specs.Query.{ask_admitted, merged_last};
 ghost use Rattle.appliance.specs.declared.router_turn.Known.TheVariants.{Nothing};
@@ -8,15 +7,14 @@ ghost use Rattle.appliance.specs.Turn.{refused_turn, shared_turn, shared_out, Sh
 
 use crate::repeat::repeat;
 use crate::reply::{Reply, refused_with, served_at};
-use delta::admit::Admitted;
 use delta::refusal::Refusal;
 use history::query::{asks, serve};
 use item::sink::Counts;
-use past::query::Answer;
 use past::state::History;
 use serial::{Serial, Session};
 
 // What is known of the answer to those that are d steps behind.
+// Kept: three answers; an `Option` of a `Result` would say no more.
 #[derive(Clone, Copy)]
 pub enum Known {
     Nothing,
@@ -44,12 +42,11 @@ fn refuse(refusal: Refusal, known: Known, used: usize) -> Turn
 
 // The last d deltas merged, behind what is used.
 fn walk(history: History, d: u32, deltas: &[u8], used: usize, out: &mut [u8]) -> Turn
-    requires { Takes Yes history d deltas.now Nothing used out.old }
-    ensures { TurnIs Yes history (merged_last d (held_deltas history deltas.now)) used out.old result out.new }
+    requires { Takes (Ok tt) history d deltas.now Nothing used out.old }
+    ensures { TurnIs (Ok tt) history (merged_last d (held_deltas history deltas.now)) used out.old result out.new }
 {
     let queried = serve(history, d, deltas, &mut out[used..]);
-    let answer = queried.answer;
-    let Answer::Served(counts) = answer else {
+    let Ok(counts) = queried.answer else {
         return refuse(Refusal::NoRoom, Known::Long, used);
     };
     let len = counts.len;
@@ -90,8 +87,8 @@ fn answer(
     used: usize,
     out: &mut [u8],
 ) -> Turn
-    requires { Takes Yes history d deltas.now known used out.old }
-    ensures { TurnIs Yes history (merged_last d (held_deltas history deltas.now)) used out.old result out.new }
+    requires { Takes (Ok tt) history d deltas.now known used out.old }
+    ensures { TurnIs (Ok tt) history (merged_last d (held_deltas history deltas.now)) used out.old result out.new }
 {
     match known {
         Known::Nothing => walk(history, d, deltas, used, out),
@@ -114,7 +111,7 @@ pub(crate) fn reply_to(
     requires { Takes (ask_admitted history session asked) history d deltas.now known used out.old }
     ensures { TurnIs (ask_admitted history session asked) history (merged_last d (held_deltas history deltas.now)) used out.old result out.new }
 {
-    if let Admitted::No(refusal) = asks(history, session, asked) {
+    if let Err(refusal) = asks(history, session, asked) {
         return refuse(refusal, known, used);
     }
     answer(history, d, deltas, known, used, out)

@@ -1,10 +1,9 @@
 -- Laws of where a batch may end.
-use Rattle.std.proofs.Common.{◌≡◌, ℕ, ◌+◌, ◌-◌, ◌/◌, ◌<◌, ◌≤◌, Bool, true, List, length, get_or, sym, refl, ◌∙◌, arith}
+use Rattle.std.proofs.Common.{◌≡◌, ℕ, ◌+◌, ◌-◌, ◌/◌, ◌<◌, ◌≤◌, List, length, get_or, arith}
 use Rattle.payload.specs.Content.{Bytes}
 use Rattle.heard.specs.Place.{Payload}
-use Rattle.batch.specs.Next.{is_above}
 use Rattle.batch.specs.Keep.{Bound}
-use Rattle.batch.specs.Map.{Hinted, Hint, HintAt, Tops}
+use Rattle.batch.specs.Map.{Hinted, Hint, HintAt}
 use Rattle.batch.specs.Map as map
 
 -- ---- behind
@@ -17,14 +16,6 @@ module _ (s : Bytes) (stop x : ℕ) where
   pub hint_good : HintAt s stop x → (x ≡ 0 → ⊥) → Payload s x
   hint_good h n = (hint_of h n).good
 
-  pub hint_none : (low : ℕ) → Tops s stop low 0
-  hint_none low = map.all refl
-
-  pub hint_top : (low : ℕ) (r : Bool) → HintAt s stop x → (x ≡ 0 → ⊥) → r ≡ is_above s low x → r ≡ true → Tops s stop low x
-  hint_top low r h n e f = map.one (hint_of h n) (sym e ∙ f)
-
-pub ruleset hinting = (hint_good, hint_none, hint_top)
-
 -- ---- aim
 
 pub record Aiming (s : Bytes) (stop : ℕ) (l : List ℕ) (low a b : ℕ) : Type 0 where
@@ -32,7 +23,7 @@ pub record Aiming (s : Bytes) (stop : ℕ) (l : List ℕ) (low a b : ℕ) : Type
   pub low_bound : Bound s low
   pub between : a ≤ b
   pub few : b ≤ 960
-  pub len : length l ≡ 962
+  pub len : length l ≡ 960
 
 pub aim_start : (s : Bytes) (stop : ℕ) (l : List ℕ) (low n : ℕ) → Hinted s stop l → Bound s low → n ≤ 960 → Aiming s stop l low 0 n
 aim_start s stop l low n h b f = record { hinted = h; low_bound = b; between = omega arith; few = f; len = h.long }
@@ -61,17 +52,3 @@ module _ (s : Bytes) (stop : ℕ) (l : List ℕ) (low a b : ℕ) (t : Aiming s s
     aim_up = record { hinted = t.hinted; low_bound = t.low_bound; between = omega arith; few = t.few; len = t.len }
 
 pub ruleset aiming = (aim_start, aim_few, aim_end, aim_low, aim_in, aim_good, aim_down, aim_up)
-
--- ---- bound
-
-module _ (s : Bytes) (stop : ℕ) (l : List ℕ) (h : Hinted s stop l) where
-  pub bound_in : (k : ℕ) → k < 962 → k < length l
-  bound_in k f = omega (arith, h.long)
-
-  pub bound_hint : (n i : ℕ) → n ≤ 960 → i < n → HintAt s stop (get_or l i 0)
-  bound_hint n i f g = h.each i (omega arith)
-
-  pub bound_at : (n i : ℕ) → n ≤ 960 → i < n → i < length l
-  bound_at n i f g = omega (arith, h.long)
-
-pub ruleset bounding = (hint_none, bound_in, bound_hint, bound_at)

@@ -1,25 +1,26 @@
 -- Laws of the walk that collects messages.
-use Rattle.std.proofs.Common.{◌≡◌, ℕ, ◌+◌, ◌*◌, ◌%◌, ◌^◌, ◌<◌, ◌≤◌, Bool, true, false, not, eqb, leb, List, [], ◌∷◌, ◌++◌, length, get_or, take, set, sym, refl, ap, ◌∙◌, subst, append_assoc, append-nil, add-one, arith, length-set, length-take-le, take_all, get_or-set_other, get_or-take, get_or-set_same, take-suc-set, w8, w64, Fits, eq-eqb, ne_eqb, eqb-true, le-leb, leb-false}
+use Rattle.std.proofs.Common.{◌≡◌, ℕ, ◌+◌, ◌<◌, ◌≤◌, Bool, true, false, not, eqb, List, [], ◌∷◌, ◌++◌, length, get_or, take, set, sym, refl, ap, ◌∙◌, subst, append_assoc, append-nil, add-one, arith, length-set, length-take-le, take_all, get_or-set_other, get_or-take, get_or-set_same, take-suc-set, w8, w64, Fits, eq-eqb, ne_eqb, eqb-true}
 use native.Mathlib.Decide.{ℕ_discrete, dec_le}
-use borrow.Author.Tests.{lt-leb}
 use Rattle.number.specs.Number.{word_at}
 use Rattle.payload.specs.Content.{Bytes}
 use Rattle.item.specs.Front.{front_key}
 use Rattle.heard.specs.Place.{Messages, done, more, Payload, type_at, size_at, key_at, precedes}
 use Rattle.heard.specs.Compare.{Of, Alike, FrontOf}
-use Rattle.heard.proofs.Comparing.{front_before, front_behind, six_less, six_greater}
+use Rattle.heard.proofs.Comparing.{front_before, front_behind, six_before, six_behind}
 use Rattle.batch.specs.declared.collect.Part.{Part}
+use Rattle.batch.specs.declared.map.Chunk.{Chunk}
+use Rattle.batch.specs.declared.map.Map.{Map}
 use Rattle.sorting.specs.Sorted.{sorted}
-use Rattle.sorting.specs.Sort.{Held, SortedIs, FirstSorted}
+use Rattle.sorting.specs.Sort.{Held, FirstSorted}
 use Rattle.batch.specs.Next.{is_above, left, NextIs}
 use Rattle.batch.specs.Keep.{only, is_up_to, is_wanted, front_or, word_or, Bound, none, one, Told, Fronts, Sifted, Trims, Trimmed, kept, cut, Meets, MeetsBehind, Passed, Takes, one_more, Taken, TakesTwo, TakenTwo, TopIs, all, Holds, WalkedTo, walked, Collected}
 use Rattle.batch.specs.Keep as keep
-use Rattle.batch.specs.Map.{Stretch, Chunk, Marked, is_chunk, Tops, Clears, Clear}
+use Rattle.batch.specs.Map.{Stretch, ChunkIs, Mapped, Tops, Clears, Clear}
 use Rattle.batch.specs.Map as map
 use Rattle.sorting.proofs.Precede.{true≢false, not_above_trans}
 use Rattle.sorting.proofs.Sorting.{All, sorted_mid, length_sorted}
 use Rattle.batch.proofs.Sorting.{Growing, all_in, only_sorted}
-use Rattle.batch.proofs.Keeping.{size_some, messages_ahead, messages_from, messages_grow, messages_good, messages_append, messages_same, First, messages_first, Sub, keep_one, sub_none, sub_first, sub_behind, sub_past, all_sub, growing_sub, in_all, wanted_is, wanted_all, wanted_not, wanted_past, messages_split, only_in, only_out, only_append, only_clear, upto_self, only_length, only_same, above_only, fall_top, lower_again, part_first, part_shorter}
+use Rattle.batch.proofs.Keeping.{messages_ahead, messages_from, messages_grow, messages_good, messages_append, messages_same, First, messages_first, Sub, keep_one, sub_none, sub_first, sub_behind, sub_past, all_sub, growing_sub, in_all, wanted_is, wanted_all, wanted_not, wanted_past, messages_split, only_in, only_out, only_append, only_clear, upto_self, only_length, only_same, above_only, fall_top, lower_again, part_first, part_shorter}
 
 -- ---- is_above, is_up_to, is_wanted
 
@@ -98,14 +99,6 @@ pub ruleset tests = (front_at_hand, above_all, above_some, upto_none, upto_some)
 
 pub ruleset wanting = (both_tests, first_fails)
 
--- ---- is_among
-
-module _ (front least most : ℕ) (x y : Fits w64 front) (z : Fits w64 least) (w : Fits w64 most) where
-  pub sifts : (a b : ℕ) → Fits w64 a → Fits w64 b → (a + least) % 2 ^ 64 ≡ front → (b + least) % 2 ^ 64 ≡ most → Sifted front least most (leb a b)
-  sifts a b f g d e = record { out = λ h k l. omega (arith, leb-false a b h, x.fits, z.fits, w.fits, f.fits, g.fits) }
-
-pub ruleset sifting = (sifts)
-
 -- ---- meet
 
 module _ (s : Bytes) (o : (i : ℕ) → Fits w8 (get_or s i 0)) (low x f : ℕ) (p : FrontOf s f x) where
@@ -154,7 +147,7 @@ module _ (s : Bytes) (o : (i : ℕ) → Fits w8 (get_or s i 0)) (low x : ℕ) (c
           let w : c.under ≡ word_at s (low + 18) = t.meets.fronts.under ∙ rw (ne_eqb low 0 z, eq-eqb (type_at s low) 6 k) in
           let f : c.least ≡ front_key (key_at s low) = t.meets.fronts.least ∙ rw (ne_eqb low 0 z) in
           let a = same_six s low x (bound_good s low x t.meets.low_bound z) t.meets.good k e (sym f ∙ sym t.front) in
-          rw (ne_eqb low 0 z) (sym (six_greater s o low x a c.under m w d h))
+          rw (ne_eqb low 0 z) (sym (six_behind s o low x a c.under m w d h))
 
   word_over : m < 18_446_744_073_709_551_616 → c.over < m → is_wanted s low c.top x ≡ false
   unfolding front_or word_or is_up_to
@@ -167,7 +160,7 @@ module _ (s : Bytes) (o : (i : ℕ) → Fits w8 (get_or s i 0)) (low x : ℕ) (c
           let w : c.over ≡ word_at s (c.top + 18) = t.meets.fronts.over ∙ rw (ne_eqb c.top 0 z, eq-eqb (type_at s c.top) 6 k) in
           let f : c.most ≡ front_key (key_at s c.top) = t.meets.fronts.most ∙ rw (ne_eqb c.top 0 z) in
           let a = same_six s c.top x (bound_good s c.top x t.meets.top_bound z) t.meets.good k e (sym f ∙ sym t.one ∙ sym t.front) in
-          rw (ne_eqb c.top 0 z) (ap not (sym (six_less s o c.top x a c.over m w d h)))
+          rw (ne_eqb c.top 0 z) (ap not (sym (six_before s o c.top x a c.over m w d h)))
 
   word_passed : Fits w64 m → Sifted m c.under c.over false → is_wanted s low c.top x ≡ false
   word_passed w i = go (dec_le c.under m) (dec_le m c.over)
@@ -206,34 +199,6 @@ module _ (s : Bytes) (low x : ℕ) (c : Part) (t : Meets s low x c) where
   pass_is o f e w false i = keep.surely (front_passed s o low x f (record { payload = t.good; is = e }) c t w i)
 
 pub ruleset passing = (pass_behind, pass_good, pass_is)
-
--- ---- trim
-
-module _ (s : Bytes) (low : ℕ) (l : List ℕ) (p : Part) (h : Trims s low l p) where
-  pub trim_none : p.n < 6_000 → Trimmed s low l p l p
-  trim_none q = kept q refl refl
-
-  pub trim_low : Bound s low
-  trim_low = h.low_bound
-
-  module _ (q : 6_000 ≤ p.n) where
-    pub trim_held : Held s l
-    trim_held = record { each = λ k z. h.held k (omega (arith, h.long)) }
-
-    module _ (m : List ℕ) (i : SortedIs s l m) where
-      pub trim_long : length m ≡ 6_000
-      trim_long = ap length i.is ∙ length_sorted s l ∙ h.long
-
-      pub trim_in : 4_499 < length m
-      trim_in = omega (arith, trim_long)
-
-      pub trim_top : Bound s (get_or m 4_499 0)
-      trim_top = one (i.held.each 4_499 trim_in)
-
-      pub trim_cut : (r : Part) → r.n ≡ 4_500 → r.top ≡ get_or m 4_499 0 → Fronts s low r → Trimmed s low l p m r
-      trim_cut r d e f = cut (omega (arith, h.few)) i d e f
-
-pub ruleset trimming = (trim_none, trim_low, trim_held, trim_long, trim_in, trim_top, trim_cut)
 
 -- ---- take_in
 
@@ -416,21 +381,6 @@ module _ (s : Bytes) (stop : ℕ) (xs : List ℕ) (w : Messages s 8 xs stop) (lo
         top_is : TopIs s xs low (get_or m 4_499 0)
         top_is = rw m_is (widen (fall_top s low p.top (u ++ (at ∷ v)) grows from 4_499 fall_in))
 
--- ---- behind
-
-module _ (s : Bytes) (at over : ℕ) (t : Stretch s at over) (h : at < over) where
-  pub behind_good : Payload s at
-  behind_good = (messages_first t.messages h).good
-
-  module _ (size : ℕ) (e : size ≡ size_at s at) where
-    pub behind_add : Fits w64 over → Fits w64 (at + size)
-    behind_add f = record { fits = omega (arith, e, messages_ahead (messages_first t.messages h).ahead, f.fits) }
-
-    pub behind_more : at < at + size
-    behind_more = omega (arith, e, size_some s at behind_good)
-
-pub ruleset behinds = (behind_good, behind_add, behind_more)
-
 -- ---- walk
 
 pub data Walking (s : Bytes) (stop low over : ℕ) (l : List ℕ) (p : Part) (at : ℕ) : Type 0 where
@@ -494,23 +444,22 @@ pub record Halved (s : Bytes) (stop low mid over : ℕ) (l : List ℕ) (p : Part
 pub data Halving (s : Bytes) (stop low mid over : ℕ) (l : List ℕ) (p : Part) (a b : ℕ) : Type 0 where
   halves : Halved s stop low mid over l p a b → Halving s stop low mid over l p a b
 
-pub half_start : (s : Bytes) (stop low from mid over : ℕ) (l : List ℕ) (p : Part) → WalkedTo s stop low from l p → Stretch s from mid → Stretch s mid over → over ≤ stop →
-    Halving s stop low mid over l p from mid
-half_start s stop low from mid over l p (walked ps rest x y k) t u h =
-    let m : mid ≤ over = messages_ahead u.messages in
-    let v = messages_split t.messages y (omega arith) in
-    let e : rest ≡ t.xs ++ v.rest = messages_same y (messages_append t.messages v.ahead) in
+pub half_start : (s : Bytes) (stop low : ℕ) (c : Chunk) (l : List ℕ) (p : Part) → WalkedTo s stop low c.from l p → ChunkIs s stop c → Halving s stop low c.mid c.over l p c.from c.mid
+half_start s stop low c l p (walked ps rest x y k) h =
+    let m : c.mid ≤ c.over = messages_ahead h.second.messages in
+    let v = messages_split h.first.messages y (omega (arith, h.within)) in
+    let e : rest ≡ h.first.xs ++ v.rest = messages_same y (messages_append h.first.messages v.ahead) in
     halves (record {
       ps = ps;
-      mids = t.xs;
+      mids = h.first.xs;
       bs = [];
       rest = v.rest;
       behind = x;
-      between = t.messages;
+      between = h.first.messages;
       half = done;
       ahead = v.ahead;
-      stretch = u;
-      within = h;
+      stretch = h.second;
+      within = h.within;
       holds = rw (← e, append-nil ps) k;
     })
 
@@ -667,85 +616,37 @@ clear_of s low top least most r (map.behind f) e x p q = wanted_past s low top x
 
 -- ---- walk_chunk
 
-module _ (s : Bytes) (stop : ℕ) (marks : List ℕ) (k : Marked s stop marks) (c : ℕ) (h : c < 112) (low : ℕ) (l : List ℕ) (p : Part) where
-  abbrev mark : ℕ → ℕ
-  mark i = get_or marks (5 * c + i) 0
+module _ (s : Bytes) (stop : ℕ) (c : Chunk) (k : ChunkIs s stop c) (low : ℕ) (l : List ℕ) (p : Part) where
+  pub chunk_clears : WalkedTo s stop low c.from l p → Clears s low p c.least c.most
+  chunk_clears (walked ps rest x y t) = record {
+    low_bound = t.low_bound;
+    top_bound = top_good s stop (ps ++ rest) (messages_append x y) low p.top t.top;
+    fronts = t.fronts;
+    least_good = k.least_good;
+    most_good = k.most_good;
+  }
 
-  chunk : WalkedTo s stop low (get_or marks (5 * c) 0) l p → Chunk s stop (get_or marks (5 * c) 0) (mark 1) (mark 2) (mark 3) (mark 4)
-  chunk (walked ps rest x y t) = k.each c h (λ z. omega (arith, messages_ahead x, z))
-
-  pub chunk_in : (i : ℕ) → i < 5 → 5 * c + i < length marks
-  chunk_in i z = omega (arith, k.long)
-
-  pub chunk_clears : WalkedTo s stop low (get_or marks (5 * c) 0) l p → Clears s low p (mark 3) (mark 4)
-  chunk_clears (walked ps rest x y t) =
-      let d = chunk (walked ps rest x y t) in
-      record {
-        low_bound = t.low_bound;
-        top_bound = top_good s stop (ps ++ rest) (messages_append x y) low p.top t.top;
-        fronts = t.fronts;
-        least_good = d.least_good;
-        most_good = d.most_good;
-      }
-
-  pub chunk_first : WalkedTo s stop low (get_or marks (5 * c) 0) l p → Stretch s (get_or marks (5 * c) 0) (mark 1)
-  chunk_first r = (chunk r).first
-
-  pub chunk_second : WalkedTo s stop low (get_or marks (5 * c) 0) l p → Stretch s (mark 1) (mark 2)
-  chunk_second r = (chunk r).second
-
-  pub chunk_within : WalkedTo s stop low (get_or marks (5 * c) 0) l p → mark 2 ≤ stop
-  chunk_within r = (chunk r).within
-
-  pub chunk_passed : WalkedTo s stop low (get_or marks (5 * c) 0) l p → (r : Bool) → Clear s low p.top (mark 3) (mark 4) r → r ≡ true → WalkedTo s stop low (mark 2) l p
+  pub chunk_passed : WalkedTo s stop low c.from l p → (r : Bool) → Clear s low p.top c.least c.most r → r ≡ true → WalkedTo s stop low c.over l p
   chunk_passed (walked ps rest x y t) r d f =
-      let u = chunk (walked ps rest x y t) in
-      let v = messages_split u.messages y u.within in
-      let e : rest ≡ u.cs ++ v.rest = messages_same y (messages_append u.messages v.ahead) in
-      let z : (ps ++ u.cs) ++ v.rest ≡ ps ++ rest = append_assoc ps u.cs v.rest ∙ ap (λ (w : List ℕ). ps ++ w) (sym e) in
-      walked (ps ++ u.cs) v.rest (messages_append x u.messages) v.ahead (rw z (record {
+      let v = messages_split k.messages y k.within in
+      let e : rest ≡ k.cs ++ v.rest = messages_same y (messages_append k.messages v.ahead) in
+      let z : (ps ++ k.cs) ++ v.rest ≡ ps ++ rest = append_assoc ps k.cs v.rest ∙ ap (λ (w : List ℕ). ps ++ w) (sym e) in
+      walked (ps ++ k.cs) v.rest (messages_append x k.messages) v.ahead (rw z (record {
         low_bound = t.low_bound;
         fronts = t.fronts;
         len = t.len;
         room = t.room;
         held = t.held;
-        is = t.is ∙ ap (sorted s) (sym (only_clear (is_wanted s low p.top) ps u.cs (λ w i. clear_of s low p.top (mark 3) (mark 4) r d f w (u.lowest w i) (u.highest w i))));
+        is = t.is ∙ ap (sorted s) (sym (only_clear (is_wanted s low p.top) ps k.cs (λ w i. clear_of s low p.top c.least c.most r d f w (k.lowest w i) (k.highest w i))));
         top = t.top;
       }))
 
-pub ruleset chunked = (chunk_in, chunk_clears, chunk_first, chunk_second, chunk_within, chunk_passed)
-
--- ---- is_chunk
-
-module _ (l : List ℕ) (c at : ℕ) where
-  pub chunk_none : 112 ≤ c → false ≡ is_chunk l c at
-  unfolding is_chunk
-  chunk_none h = rw (le-leb 112 c h)
-
-  pub chunk_some : c < 112 → eqb (get_or l (5 * c) 0) at ≡ is_chunk l c at
-  unfolding is_chunk
-  chunk_some h = rw (lt-leb 112 c h)
-
-  pub chunk_long : length l ≡ 560 → c < 112 → 5 * c < length l
-  chunk_long e h = omega arith
-
-pub ruleset chunks = (chunk_none, chunk_some, chunk_long)
-
-small_chunk : (l : List ℕ) (c at : ℕ) → is_chunk l c at ≡ true → c < 112
-unfolding is_chunk
-small_chunk l c at d = go (dec_le 112 c)
-  where
-    go : Dec (112 ≤ c) → c < 112
-    go (yes h) = true≢false d (rw (le-leb 112 c h))
-    go (no h) = omega arith
-
-pub collect_small : (l : List ℕ) (c at : ℕ) (r : Bool) → r ≡ is_chunk l c at → r ≡ true → c < 112
-collect_small l c at r d f = small_chunk l c at (sym d ∙ f)
+pub ruleset chunked = (chunk_clears, chunk_passed)
 
 -- ---- collect: the messages before `at` are met
 
-pub data Collecting (s : Bytes) (stop low : ℕ) (marks l : List ℕ) (p : Part) (at c : ℕ) : Type 0 where
-  collects : WalkedTo s stop low at l p → Marked s stop marks → Collecting s stop low marks l p at c
+pub data Collecting (s : Bytes) (stop low : ℕ) (m : Map) (l : List ℕ) (p : Part) (at : ℕ) : Type 0 where
+  collects : WalkedTo s stop low at l p → Mapped s stop m → Collecting s stop low m l p at
 
 start_top : (s : Bytes) (stop low first : ℕ) (xs : List ℕ) → Messages s 8 xs stop → Tops s stop low first → TopIs s xs low first
 start_top s stop low first xs m (map.all e) = all e
@@ -762,9 +663,8 @@ module _ (s : Bytes) (stop low first : ℕ) (t : Told s stop low) (o : Tops s st
       go (map.all e) = none e
       go (map.one h e) = one h.good
 
-  pub collect_start : (marks l : List ℕ) → Marked s stop marks → length l ≡ 6_000 → (p : Part) → p.n ≡ 0 → p.top ≡ first → Fronts s low p →
-      Collecting s stop low marks l p 8 0
-  collect_start marks l k e p n d f = collects
+  pub collect_start : (m : Map) (l : List ℕ) → Mapped s stop m → length l ≡ 6_000 → (p : Part) → p.n ≡ 0 → p.top ≡ first → Fronts s low p → Collecting s stop low m l p 8
+  collect_start m l k e p n d f = collects
       (walked [] t.xs done t.messages (record {
         low_bound = t.bound;
         fronts = f;
@@ -776,28 +676,20 @@ module _ (s : Bytes) (stop low first : ℕ) (t : Told s stop low) (o : Tops s st
       }))
       k
 
-module _ (s : Bytes) (stop low : ℕ) (marks l : List ℕ) (p : Part) (at c : ℕ) where
-  pub collect_marked : Collecting s stop low marks l p at c → Marked s stop marks
-  collect_marked (collects r k) = k
+module _ (s : Bytes) (stop low : ℕ) (m : Map) (l : List ℕ) (p : Part) (at : ℕ) where
+  pub collect_reached : Collecting s stop low m l p at → (x : ℕ) → x ≡ at → WalkedTo s stop low x l p
+  collect_reached (collects t k) x e = rw e t
 
-  pub collect_marks : Collecting s stop low marks l p at c → length marks ≡ 560
-  collect_marks (collects r k) = k.long
+  pub collect_chunk : Collecting s stop low m l p at → (c : ℕ) (d : Chunk) → c < 112 → (get_or m.chunks c d).from ≡ at → ChunkIs s stop (get_or m.chunks c d)
+  collect_chunk (collects (walked ps rest x y t) k) c d h e = k.marked.each c d h (λ z. omega (arith, messages_ahead x, z, e))
 
-  collect_at : is_chunk marks c at ≡ true → c < 112 → get_or marks (5 * c) 0 ≡ at
-  unfolding is_chunk
-  collect_at d h = eqb-true (get_or marks (5 * c) 0) at (rw (lt-leb 112 c h) at d)
+  pub collect_again : Collecting s stop low m l p at → (b : List ℕ) (q : Part) (n : ℕ) → WalkedTo s stop low n b q → Collecting s stop low m b q n
+  collect_again (collects t k) b q n h = collects h k
 
-  pub collect_reached : Collecting s stop low marks l p at c → (r : Bool) → r ≡ is_chunk marks c at → r ≡ true → WalkedTo s stop low (get_or marks (5 * c) 0) l p
-  collect_reached (collects t k) r d f = rw (collect_at (sym d ∙ f) (small_chunk marks c at (sym d ∙ f))) t
-
-  pub collect_again : Collecting s stop low marks l p at c → (m : List ℕ) (q : Part) → WalkedTo s stop low (get_or marks (5 * c + 2) 0) m q → (n : ℕ) → n ≡ get_or marks (5 * c + 2) 0 →
-      Collecting s stop low marks m q n (c + 1)
-  collect_again (collects t k) m q h n e = collects (rw e h) k
-
-  pub collect_here : Collecting s stop low marks l p at c → WalkedTo s stop low at l p
+  pub collect_here : Collecting s stop low m l p at → WalkedTo s stop low at l p
   collect_here (collects t k) = t
 
-  pub collect_stretch : Collecting s stop low marks l p at c → Stretch s at stop
+  pub collect_stretch : Collecting s stop low m l p at → Stretch s at stop
   collect_stretch (collects (walked ps rest x y t) k) = record { xs = rest; messages = y }
 
 pub collect_end : (s : Bytes) (stop low : ℕ) (l : List ℕ) (p : Part) → WalkedTo s stop low stop l p → Collected s stop low l p
@@ -814,7 +706,7 @@ collect_end s stop low l p (walked ps rest x y t) =
       top = rw e at t.top;
     }
 
-pub ruleset collecting = (collect_low, collect_top, collect_start, collect_marked, collect_marks, collect_small, collect_reached, collect_again, collect_here, collect_stretch, collect_end)
+pub ruleset collecting = (collect_low, collect_top, collect_start, collect_reached, collect_chunk, collect_again, collect_here, collect_stretch, collect_end)
 
 -- ---- next
 

@@ -1,12 +1,15 @@
 -- Laws of the survey.
-use Rattle.std.proofs.Common.{◌≡◌, ℕ, ◌+◌, ◌-◌, ◌*◌, ◌/◌, ◌<◌, ◌≤◌, false, List, [], ◌∷◌, ◌++◌, length, get_or, take, set, sym, refl, ap, ◌∙◌, add-one, arith, length-set, length-take-le, get_or-drop, get_or-set_other, get_or-take, get_or-set_same, take-suc-set, w64, Fits}
+use Rattle.std.proofs.Common.{◌≡◌, ℕ, ◌+◌, ◌-◌, ◌/◌, ◌<◌, ◌≤◌, false, List, [], ◌∷◌, ◌++◌, length, get_or, take, set, sym, refl, ap, subst, ◌∙◌, add-one, arith, length-set, length-take-le, get_or-drop, get_or-set_other, get_or-take, get_or-set_same, take-suc-set, w64, Fits}
 use native.Mathlib.Decide.{ℕ_discrete, dec_le}
 use Rattle.payload.specs.Content.{Bytes}
 use Rattle.heard.specs.Place.{Messages, done, more, Payload, size_at, precedes}
+use Rattle.batch.specs.declared.map.Chunk.{Chunk}
+use Rattle.batch.specs.declared.map.Map.{Map}
 use Rattle.batch.specs.declared.survey.Filled.{Filled}
+use Rattle.batch.specs.declared.survey.Charted.{Charted}
 use Rattle.sorting.specs.Sorted.{sorted}
 use Rattle.sorting.specs.Sort.{Held, FirstSorted}
-use Rattle.batch.specs.Map.{Hint, HintAt, Hinted, Chunk, Stretch, FilledIs, Among, Drew, Draws, Drawn, CutAt, Noted, Starts, Charted, Surveys, Surveyed, Lines}
+use Rattle.batch.specs.Map.{Hint, HintAt, ChunkIs, Mapped, Stretch, FilledIs, Among, Drew, Draws, Drawn, CutAt, Starts, ChartedIs, Surveys, Surveyed, Lines}
 use Rattle.batch.specs.Map as map
 use Rattle.sorting.proofs.Sorting.{All, cons, climbing_at, all_at, all_by, all_sorted, Climbing, flat, up, climbing_sorted, length_sorted}
 use Rattle.batch.proofs.Sorting.{in_sorted, all_in}
@@ -110,7 +113,7 @@ module _ (b : List ℕ) (n every : ℕ) (l₀ : List ℕ) (held : ℕ) (l : List
   pub draw_some : 1 ≤ every
   draw_some = t.some
 
-  pub draw_long : length l ≡ 962
+  pub draw_long : length l ≡ 960
   draw_long = t.drawn.long ∙ t.asked.long
 
   module _ (i : ℕ) (h : i < n) where
@@ -151,80 +154,6 @@ module _ (b : List ℕ) (n every : ℕ) (l₀ : List ℕ) (held : ℕ) (l : List
 
 pub ruleset drawing = (draw_start, draw_done, draw_few, draw_some, draw_long, draw_in, draw_add, draw_at, draw_again)
 
--- ---- note
-
-module _ (l : List ℕ) (c from mid over least most : ℕ) where
-  abbrev l₁ : List ℕ
-  l₁ = set l (5 * c) from
-
-  abbrev l₂ : List ℕ
-  l₂ = set (set l (5 * c) from) (5 * c + 1) mid
-
-  abbrev l₃ : List ℕ
-  l₃ = set (set (set l (5 * c) from) (5 * c + 1) mid) (5 * c + 2) over
-
-  abbrev l₄ : List ℕ
-  l₄ = set (set (set (set l (5 * c) from) (5 * c + 1) mid) (5 * c + 2) over) (5 * c + 3) least
-
-  abbrev l₅ : List ℕ
-  l₅ = set (set (set (set (set l (5 * c) from) (5 * c + 1) mid) (5 * c + 2) over) (5 * c + 3) least) (5 * c + 4) most
-
-  other₁ : (k : ℕ) → (k ≡ 5 * c → ⊥) → get_or l₁ k 0 ≡ get_or l k 0
-  other₁ k n = get_or-set_other l (5 * c) k from 0 n
-
-  other₂ : (k : ℕ) → (k ≡ 5 * c + 1 → ⊥) → get_or l₂ k 0 ≡ get_or l₁ k 0
-  other₂ k n = get_or-set_other l₁ (5 * c + 1) k mid 0 n
-
-  other₃ : (k : ℕ) → (k ≡ 5 * c + 2 → ⊥) → get_or l₃ k 0 ≡ get_or l₂ k 0
-  other₃ k n = get_or-set_other l₂ (5 * c + 2) k over 0 n
-
-  other₄ : (k : ℕ) → (k ≡ 5 * c + 3 → ⊥) → get_or l₄ k 0 ≡ get_or l₃ k 0
-  other₄ k n = get_or-set_other l₃ (5 * c + 3) k least 0 n
-
-  other₅ : (k : ℕ) → (k ≡ 5 * c + 4 → ⊥) → get_or l₅ k 0 ≡ get_or l₄ k 0
-  other₅ k n = get_or-set_other l₄ (5 * c + 4) k most 0 n
-
-  long₁ : length l₁ ≡ length l
-  long₁ = length-set l (5 * c) from
-
-  long₂ : length l₂ ≡ length l
-  long₂ = length-set l₁ (5 * c + 1) mid ∙ long₁
-
-  long₃ : length l₃ ≡ length l
-  long₃ = length-set l₂ (5 * c + 2) over ∙ long₂
-
-  long₄ : length l₄ ≡ length l
-  long₄ = length-set l₃ (5 * c + 3) least ∙ long₃
-
-  long₅ : length l₅ ≡ length l
-  long₅ = length-set l₄ (5 * c + 4) most ∙ long₄
-
-  pub note_done : length l ≡ 560 → c < 112 → Noted l c from mid over least most l₅
-  note_done e h = record {
-    long = long₅;
-    from_is = other₅ (5 * c) (λ z. omega arith) ∙ other₄ (5 * c) (λ z. omega arith) ∙ other₃ (5 * c) (λ z. omega arith) ∙ other₂ (5 * c) (λ z. omega arith) ∙ get_or-set_same l (5 * c) from 0 (omega arith);
-    mid_is = other₅ (5 * c + 1) (λ z. omega arith) ∙ other₄ (5 * c + 1) (λ z. omega arith) ∙ other₃ (5 * c + 1) (λ z. omega arith) ∙ get_or-set_same l₁ (5 * c + 1) mid 0 (omega (arith, long₁));
-    over_is = other₅ (5 * c + 2) (λ z. omega arith) ∙ other₄ (5 * c + 2) (λ z. omega arith) ∙ get_or-set_same l₂ (5 * c + 2) over 0 (omega (arith, long₂));
-    least_is = other₅ (5 * c + 3) (λ z. omega arith) ∙ get_or-set_same l₃ (5 * c + 3) least 0 (omega (arith, long₃));
-    most_is = get_or-set_same l₄ (5 * c + 4) most 0 (omega (arith, long₄));
-    before = λ k z. others k (λ y. omega arith) (λ y. omega arith) (λ y. omega arith) (λ y. omega arith) (λ y. omega arith);
-    behind = λ k z. others k (λ y. omega arith) (λ y. omega arith) (λ y. omega arith) (λ y. omega arith) (λ y. omega arith);
-  }
-    where
-      others : (k : ℕ) → (k ≡ 5 * c + 4 → ⊥) → (k ≡ 5 * c + 3 → ⊥) → (k ≡ 5 * c + 2 → ⊥) → (k ≡ 5 * c + 1 → ⊥) → (k ≡ 5 * c → ⊥) → get_or l₅ k 0 ≡ get_or l k 0
-      others k v w x y z = other₅ k v ∙ other₄ k w ∙ other₃ k x ∙ other₂ k y ∙ other₁ k z
-
-module _ (at mid r : ℕ) where
-  pub cut_start : r ≡ at → CutAt at mid r
-  cut_start e = map.start e
-
-  pub cut_middle : r ≡ mid → CutAt at mid r
-  cut_middle e = map.middle e
-
-pub ruleset cutting = (cut_start, cut_middle)
-
-pub ruleset noting = (note_done)
-
 -- ---- chart
 
 -- of a climbing list none is before the first
@@ -240,18 +169,12 @@ last_highest s {l} c h = all_by l (λ k z. go k z (ℕ_discrete k (length l - 1)
     go k z (yes e) = rw e (never_self s (get_or l (length l - 1) 0))
     go k z (no e) = climbing_at s c k (length l - 1) (omega arith) (omega arith)
 
-module _ (s : Bytes) (stop at c : ℕ) (marks l : List ℕ) (t : Starts s stop at c marks l) where
+module _ (s : Bytes) (stop at : ℕ) (l : List ℕ) (t : Starts s stop at l) where
   pub chart_stretch : Stretch s at stop
   chart_stretch = t.stretch
 
   pub chart_len : length l ≡ 6_000
   chart_len = t.len
-
-  pub chart_marks : length marks ≡ 560
-  chart_marks = t.marked.long
-
-  pub chart_small : c < 112
-  chart_small = t.small
 
   module _ (m : List ℕ) (f : Filled) (u : FilledIs s at stop m f) where
     pub chart_few : f.n ≤ length m
@@ -302,7 +225,10 @@ module _ (s : Bytes) (stop at c : ℕ) (marks l : List ℕ) (t : Starts s stop a
       cut_halves r (map.start e) = rw e (record { first = record { xs = []; messages = done }; second = record { xs = u.cs; messages = u.messages } })
       cut_halves r (map.middle e) = rw e halves
 
-      chunk : (r : ℕ) → CutAt at (get_or m (f.n / 2) 0) r → Chunk s stop at r f.over (get_or k 0 0) (get_or k (f.n - 1) 0)
+      abbrev chunk_of : ℕ → Chunk
+      chunk_of r = record { from = at; mid = r; over = f.over; least = get_or k 0 0; most = get_or k (f.n - 1) 0 }
+
+      chunk : (r : ℕ) → CutAt at (get_or m (f.n / 2) 0) r → ChunkIs s stop (chunk_of r)
       chunk r d = record {
         cs = u.cs;
         messages = u.messages;
@@ -315,138 +241,125 @@ module _ (s : Bytes) (stop at c : ℕ) (marks l : List ℕ) (t : Starts s stop a
         highest = λ x i. rw (at_place (f.n - 1) (omega (arith, chart_some))) (in_all (in_sorted s i) (rw count at (last_highest s (climbing_sorted s u.cs) (omega (arith, count, chart_some)))));
       }
 
-      pub chart_done : (r : ℕ) → CutAt at (get_or m (f.n / 2) 0) r → (n : List ℕ) → Noted marks c at r f.over (get_or k 0 0) (get_or k (f.n - 1) 0) n → Charted s stop at n k f
-      chart_done r d n w = record {
-        cs = u.cs;
-        messages = u.messages;
+      pub chart_done : (r : ℕ) → CutAt at (get_or m (f.n / 2) 0) r → ChartedIs s stop at k (record { chunk = chunk_of r; n = f.n })
+      unfolding chunk
+      chart_done r d = record {
+        chunk = chunk r d;
+        from = refl;
         stretch = record { xs = u.rest; messages = u.ahead };
         moves = u.moves t.ahead;
-        marked = record { long = w.long ∙ t.marked.long; each = λ b h z. mark b h z (ℕ_discrete b c) (dec_le b c) };
         len = chart_long;
         few = u.few;
         each = λ i h. rw (at_place i h) (all_at (all_sorted s (all_in u.cs)) i (omega (arith, count)));
       }
-        where
-          same : (b : ℕ) → b < 112 → (get_or n (5 * b) 0 ≡ 0 → ⊥) → ((j : ℕ) → j < 5 → get_or n (5 * b + j) 0 ≡ get_or marks (5 * b + j) 0) →
-              get_or n (5 * b) 0 ≡ get_or marks (5 * b) 0 → Chunk s stop (get_or n (5 * b) 0) (get_or n (5 * b + 1) 0) (get_or n (5 * b + 2) 0) (get_or n (5 * b + 3) 0) (get_or n (5 * b + 4) 0)
-          same b h z e g =
-              rw (g, e 1 (omega arith), e 2 (omega arith), e 3 (omega arith), e 4 (omega arith)) (t.marked.each b h (λ y. z (g ∙ y)))
 
-          mark : (b : ℕ) → b < 112 → (get_or n (5 * b) 0 ≡ 0 → ⊥) → Dec (b ≡ c) → Dec (b ≤ c) →
-              Chunk s stop (get_or n (5 * b) 0) (get_or n (5 * b + 1) 0) (get_or n (5 * b + 2) 0) (get_or n (5 * b + 3) 0) (get_or n (5 * b + 4) 0)
-          mark b h z (yes e) v = rw (e, w.from_is, w.mid_is, w.over_is, w.least_is, w.most_is) (chunk r d)
-          mark b h z (no e) (yes d) = same b h z (λ j y. w.before (5 * b + j) (omega arith)) (w.before (5 * b) (omega arith))
-          mark b h z (no e) (no d) = same b h z (λ j y. w.behind (5 * b + j) (omega arith)) (w.behind (5 * b) (omega arith))
-
-pub ruleset charting = (chart_stretch, chart_len, chart_marks, chart_small, chart_few, chart_some, chart_mid, chart_held, chart_long, chart_first, chart_last, chart_there, chart_done)
+pub ruleset charting = (chart_stretch, chart_len, chart_few, chart_some, chart_mid, chart_held, chart_long, chart_first, chart_last, chart_there, chart_done)
 
 -- ---- chunks
 
-pub record Surveying (s : Bytes) (stop every : ℕ) (marks hints l : List ℕ) (at c held : ℕ) : Type 0 where
+pub record Surveying (s : Bytes) (stop every : ℕ) (m : Map) (l : List ℕ) (at held : ℕ) : Type 0 where
   pub ps : List ℕ
   pub behind : Messages s 8 ps at
   pub stretch : Stretch s at stop
-  pub surveyed : Surveyed s stop marks hints l held
+  pub surveyed : Surveyed s stop m l held
   pub some : 1 ≤ every
   pub small : every < 4_294_967_296
-  pub few : c ≤ 112
 
-pub chunks_start : (s : Bytes) (stop every : ℕ) (marks hints l : List ℕ) → Surveys s stop marks hints l → 1 ≤ every → every < 4_294_967_296 →
-    Surveying s stop every marks hints l 8 0 0
-chunks_start s stop every marks hints l t a b = record {
+pub chunks_start : (s : Bytes) (stop every : ℕ) (m : Map) (l : List ℕ) → Surveys s stop m l → 1 ≤ every → every < 4_294_967_296 → Surveying s stop every m l 8 0
+chunks_start s stop every m l t a b = record {
   ps = [];
   behind = done;
   stretch = t.stretch;
-  surveyed = record { marked = t.marked; hinted = t.hinted; len = t.len; few = omega arith; each = λ k h. absurd (omega arith) };
+  surveyed = record { mapped = t.mapped; len = t.len; few = omega arith; each = λ k h. absurd (omega arith) };
   some = a;
   small = b;
-  few = omega arith;
 }
 
-module _ (s : Bytes) (stop every : ℕ) (marks hints l : List ℕ) (at c held : ℕ) (t : Surveying s stop every marks hints l at c held) where
-  pub chunks_done : Surveyed s stop marks hints l held
+module _ (s : Bytes) (stop every : ℕ) (m : Map) (l : List ℕ) (at held : ℕ) (t : Surveying s stop every m l at held) where
+  pub chunks_done : Surveyed s stop m l held
   chunks_done = t.surveyed
 
   pub chunks_some : 1 ≤ every
   chunks_some = t.some
 
-  pub chunks_few : c ≤ 112
-  chunks_few = t.few
+  pub chunks_starts : at < stop → Starts s stop at l
+  chunks_starts h = record { stretch = t.stretch; ahead = h; len = t.surveyed.len }
 
-  module _ (h : at < stop) (g : c ≡ 112 → ⊥) where
-    pub chunks_starts : Starts s stop at c marks l
-    chunks_starts = record { stretch = t.stretch; ahead = h; small = omega (arith, t.few); marked = t.surveyed.marked; len = t.surveyed.len }
+  module _ (b : List ℕ) (f : Charted) (u : ChartedIs s stop at b f) where
+    pub chunks_draws : Draws b f.n every m.hints held
+    chunks_draws = record { len = u.len; within = u.few; some = t.some; small = t.small; long = t.surveyed.mapped.hinted.long; few = t.surveyed.few }
 
-    module _ (n m : List ℕ) (f : Filled) (u : Charted s stop at n m f) where
-      pub chunks_moves : at < f.over
-      chunks_moves = u.moves
+    from_at : Messages s at u.chunk.cs f.chunk.over
+    from_at = subst (λ (n : ℕ). Messages s n u.chunk.cs f.chunk.over) u.from u.chunk.messages
 
-      pub chunks_draws : Draws m f.n every hints held
-      chunks_draws = record { len = u.len; within = u.few; some = t.some; small = t.small; long = t.surveyed.hinted.long; few = t.surveyed.few }
+    drawn_hint : (y : ℕ) → Among b f.n y → Hint s stop y
+    drawn_hint y a = rw a.is (record {
+      good = in_all (u.each a.i a.within) (messages_good u.chunk.messages);
+      among = λ xs w. rw (messages_same (messages_append (messages_append t.behind from_at) u.stretch.messages) w) at
+          (in_append u.stretch.xs (in_behind t.ps (u.each a.i a.within)));
+    })
 
-      drawn_hint : (y : ℕ) → Among m f.n y → Hint s stop y
-      drawn_hint y a = rw a.is (record {
-        good = in_all (u.each a.i a.within) (messages_good u.messages);
-        among = λ xs w. rw (messages_same (messages_append (messages_append t.behind u.messages) u.stretch.messages) w) at
-            (in_append u.stretch.xs (in_behind t.ps (u.each a.i a.within)));
-      })
-
-      pub chunks_again : (k : List ℕ) (r : ℕ) → Drawn m f.n hints held k r → Surveying s stop every n k m f.over (c + 1) r
-      chunks_again k r d = record {
-        ps = t.ps ++ u.cs;
-        behind = messages_append t.behind u.messages;
-        stretch = u.stretch;
-        surveyed = record {
-          marked = u.marked;
-          hinted = record { long = d.long ∙ t.surveyed.hinted.long; each = λ b z. hint b z (d.each b) };
-          len = u.len;
-          few = d.few;
-          each = λ b z. one b z (dec_le held b);
+    pub chunks_again : (c : ℕ) → c < 112 → (k : List ℕ) (r : ℕ) → Drawn b f.n m.hints held k r →
+        Surveying s stop every (record { chunks = set m.chunks c f.chunk; hints = k; held = m.held; step = m.step }) b f.chunk.over r
+    chunks_again c i k r d = record {
+      ps = t.ps ++ u.chunk.cs;
+      behind = messages_append t.behind from_at;
+      stretch = u.stretch;
+      surveyed = record {
+        mapped = record {
+          marked = record { long = length-set m.chunks c f.chunk ∙ t.surveyed.mapped.marked.long; each = λ j e h z. mark j e h z (ℕ_discrete j c) };
+          hinted = record { long = d.long ∙ t.surveyed.mapped.hinted.long; each = λ j z. hint j z (d.each j) };
         };
-        some = t.some;
-        small = t.small;
-        few = omega (arith, t.few);
-      }
-        where
-          hint : (b : ℕ) → b < 960 → Drew m f.n (get_or hints b 0) (get_or k b 0) → HintAt s stop (get_or k b 0)
-          hint b z (map.old e) = rw e (t.surveyed.hinted.each b z)
-          hint b z (map.new a) = map.one (drawn_hint (get_or k b 0) a)
+        len = u.len;
+        few = d.few;
+        each = λ j z. one j z (dec_le held j);
+      };
+      some = t.some;
+      small = t.small;
+    }
+      where
+        mark : (j : ℕ) (e : Chunk) → j < 112 → ((get_or (set m.chunks c f.chunk) j e).from ≡ 0 → ⊥) → Dec (j ≡ c) → ChunkIs s stop (get_or (set m.chunks c f.chunk) j e)
+        mark j e h z (yes q) = rw (q, get_or-set_same m.chunks c f.chunk e (omega (arith, t.surveyed.mapped.marked.long))) u.chunk
+        mark j e h z (no q) =
+            let g : get_or (set m.chunks c f.chunk) j e ≡ get_or m.chunks j e = get_or-set_other m.chunks c j f.chunk e q in
+            rw g (t.surveyed.mapped.marked.each j e h (λ y. z (ap (λ (x : Chunk). x.from) g ∙ y)))
 
-          one : (b : ℕ) → b < r → Dec (held ≤ b) → Hint s stop (get_or k b 0)
-          one b z (yes e) = drawn_hint (get_or k b 0) (d.fresh b e z)
-          one b z (no e) = rw (d.before b (omega arith)) (t.surveyed.each b (omega arith))
+        hint : (j : ℕ) → j < 960 → Drew b f.n (get_or m.hints j 0) (get_or k j 0) → HintAt s stop (get_or k j 0)
+        hint j z (map.old e) = rw e (t.surveyed.mapped.hinted.each j z)
+        hint j z (map.new a) = map.one (drawn_hint (get_or k j 0) a)
 
-pub ruleset surveying = (chunks_start, chunks_done, chunks_some, chunks_few, chunks_starts, chunks_moves, chunks_draws, chunks_again)
+        one : (j : ℕ) → j < r → Dec (held ≤ j) → Hint s stop (get_or k j 0)
+        one j z (yes e) = drawn_hint (get_or k j 0) (d.fresh j e z)
+        one j z (no e) = rw (d.before j (omega arith)) (t.surveyed.each j (omega arith))
+
+pub ruleset surveying = (chunks_start, chunks_done, chunks_some, chunks_starts, chunks_draws, chunks_again)
 
 -- ---- line_up
 
-module _ (s : Bytes) (stop : ℕ) (l : List ℕ) (held : ℕ) (t : Lines s stop l held) where
-  pub line_few : held ≤ length l
-  line_few = omega (arith, t.few, t.hinted.long)
+module _ (s : Bytes) (stop : ℕ) (m : Map) (held : ℕ) (t : Lines s stop m held) where
+  pub line_few : held ≤ length m.hints
+  line_few = omega (arith, t.few, t.mapped.hinted.long)
 
-  pub line_held : Held s (take held l)
-  line_held = record { each = λ k h. let e : k < held = omega (arith, length-take-le held l line_few) in rw (get_or-take held l k 0 e) (t.each k e).good }
+  pub line_held : Held s (take held m.hints)
+  line_held = record { each = λ k h. let e : k < held = omega (arith, length-take-le held m.hints line_few) in rw (get_or-take held m.hints k 0 e) (t.each k e).good }
 
-  module _ (m : List ℕ) (f : FirstSorted s l held m) where
-    pub line_long : length m ≡ 962
-    line_long = f.long ∙ t.hinted.long
+  module _ (l : List ℕ) (f : FirstSorted s m.hints held l) where
+    hints : All (λ (x : ℕ). Hint s stop x) (take held m.hints)
+    hints = all_by (take held m.hints) (λ k h. let e : k < held = omega (arith, length-take-le held m.hints line_few) in rw (get_or-take held m.hints k 0 e) (t.each k e))
 
-    hints : All (λ (x : ℕ). Hint s stop x) (take held l)
-    hints = all_by (take held l) (λ k h. let e : k < held = omega (arith, length-take-le held l line_few) in rw (get_or-take held l k 0 e) (t.each k e))
-
-    each : (k : ℕ) → k < 960 → Dec (held ≤ k) → HintAt s stop (get_or m k 0)
+    each : (k : ℕ) → k < 960 → Dec (held ≤ k) → HintAt s stop (get_or l k 0)
     each k h (yes e) =
         let z : held + (k - held) ≡ k = omega arith in
-        let q : get_or m k 0 ≡ get_or l k 0 = rw (← z) (sym (get_or-drop held m (k - held) 0) ∙ ap (λ (y : List ℕ). get_or y (k - held) 0) f.rest ∙ get_or-drop held l (k - held) 0) in
-        rw q (t.hinted.each k h)
+        let q : get_or l k 0 ≡ get_or m.hints k 0 = rw (← z) (sym (get_or-drop held l (k - held) 0) ∙ ap (λ (y : List ℕ). get_or y (k - held) 0) f.rest ∙ get_or-drop held m.hints (k - held) 0) in
+        rw q (t.mapped.hinted.each k h)
     each k h (no e) =
-        let z : k < length (sorted s (take held l)) = omega (arith, length_sorted s (take held l), length-take-le held l line_few) in
-        rw (sym (get_or-take held m k 0 (omega arith)) ∙ ap (λ (y : List ℕ). get_or y k 0) f.is) (map.one (all_at (all_sorted s hints) k z))
+        let z : k < length (sorted s (take held m.hints)) = omega (arith, length_sorted s (take held m.hints), length-take-le held m.hints line_few) in
+        rw (sym (get_or-take held l k 0 (omega arith)) ∙ ap (λ (y : List ℕ). get_or y k 0) f.is) (map.one (all_at (all_sorted s hints) k z))
 
-    pub line_done : (step : ℕ) → Hinted s stop (set (set m 960 held) 961 step)
+    pub line_done : (step : ℕ) → Mapped s stop (record { chunks = m.chunks; hints = l; held = held; step = step })
     line_done step = record {
-      long = length-set (set m 960 held) 961 step ∙ length-set m 960 held ∙ line_long;
-      each = λ k h. rw (get_or-set_other (set m 960 held) 961 k step 0 (λ z. omega arith), get_or-set_other m 960 k held 0 (λ z. omega arith)) (each k h (dec_le held k));
+      marked = t.mapped.marked;
+      hinted = record { long = f.long ∙ t.mapped.hinted.long; each = λ k h. each k h (dec_le held k) };
     }
 
-pub ruleset lining = (line_few, line_held, line_long, line_done)
+pub ruleset lining = (line_few, line_held, line_done)

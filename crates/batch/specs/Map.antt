@@ -1,9 +1,12 @@
 -- What is known of the messages beforehand, for speed: chunks of them with their first and last in message order, and hints.
-use Rattle.std.specs.Prelude.{◌≡◌, ℕ, ◌+◌, ◌*◌, ◌<◌, ◌≤◌, Bool, true, false, cond, List, length, take, ◌==◌, ◌≢◌, nat_le, slice_index, slice_index_or}
+use Rattle.std.specs.Prelude.{◌≡◌, ℕ, ◌<◌, ◌≤◌, Bool, true, false, List, length, take, ◌≢◌, slice_index, slice_index_or}
 use Rattle.payload.specs.Content.{Bytes}
 use Rattle.heard.specs.Place.{Messages, Payload, precedes}
 use Rattle.batch.specs.declared.collect.Part.{Part}
+use Rattle.batch.specs.declared.map.Chunk.{Chunk}
+use Rattle.batch.specs.declared.map.Map.{Map}
 use Rattle.batch.specs.declared.survey.Filled.{Filled}
+use Rattle.batch.specs.declared.survey.Charted.{Charted}
 use Rattle.batch.specs.Next.{is_above}
 use Rattle.batch.specs.Keep.{In, Bound, is_up_to, Fronts}
 
@@ -17,9 +20,9 @@ pub data HintAt (s : Bytes) (stop x : ℕ) : Type 0 where
   none : x ≡ 0 → HintAt s stop x
   one : Hint s stop x → HintAt s stop x
 
--- 960 hints; behind them their number and how many a batch may reach over, which touch speed alone
+-- 960 hints
 pub record Hinted (s : Bytes) (stop : ℕ) (l : List ℕ) : Type 0 where
-  pub long : length l ≡ 962
+  pub long : length l ≡ 960
   pub each : (k : ℕ) → k < 960 → HintAt s stop (slice_index l k)
 
 -- messages from `at` to `stop`
@@ -28,26 +31,26 @@ pub record Stretch (s : Bytes) (at stop : ℕ) : Type 0 where
   pub messages : Messages s at xs stop
 
 -- a stretch of messages, one of them at `mid`, none before `least` or behind `most`
-pub record Chunk (s : Bytes) (stop from mid over least most : ℕ) : Type 0 where
+pub record ChunkIs (s : Bytes) (stop : ℕ) (c : Chunk) : Type 0 where
   pub cs : List ℕ
-  pub messages : Messages s from cs over
-  pub first : Stretch s from mid
-  pub second : Stretch s mid over
-  pub within : over ≤ stop
-  pub least_good : Payload s least
-  pub most_good : Payload s most
-  pub lowest : (x : ℕ) → In x cs → precedes s x least ≡ false
-  pub highest : (x : ℕ) → In x cs → precedes s most x ≡ false
+  pub messages : Messages s c.from cs c.over
+  pub first : Stretch s c.from c.mid
+  pub second : Stretch s c.mid c.over
+  pub within : c.over ≤ stop
+  pub least_good : Payload s c.least
+  pub most_good : Payload s c.most
+  pub lowest : (x : ℕ) → In x cs → precedes s x c.least ≡ false
+  pub highest : (x : ℕ) → In x cs → precedes s c.most x ≡ false
 
--- 112 chunks: where one starts, where its second half does, where it ends, its first and its last message in message order; 0: none
-pub record Marked (s : Bytes) (stop : ℕ) (l : List ℕ) : Type 0 where
-  pub long : length l ≡ 560
-  pub each : (c : ℕ) → c < 112 → (slice_index l (5 * c) ≢ 0) →
-      Chunk s stop (slice_index l (5 * c)) (slice_index l (5 * c + 1)) (slice_index l (5 * c + 2)) (slice_index l (5 * c + 3)) (slice_index l (5 * c + 4))
+-- 112 chunks; where one starts at 0, none
+pub record Marked (s : Bytes) (stop : ℕ) (l : List Chunk) : Type 0 where
+  pub long : length l ≡ 112
+  pub each : (c : ℕ) (d : Chunk) → c < 112 → ((slice_index_or l c d).from ≢ 0) → ChunkIs s stop (slice_index_or l c d)
 
--- chunk c starts at `at`
-unfoldable pub is_chunk : List ℕ → ℕ → ℕ → Bool
-is_chunk l c at = cond (nat_le 112 c) false (slice_index l (5 * c) == at)
+-- chunks, and hints; how many hints there are and how many a batch may reach over touches speed alone
+pub record Mapped (s : Bytes) (stop : ℕ) (m : Map) : Type 0 where
+  pub marked : Marked s stop m.chunks
+  pub hinted : Hinted s stop m.hints
 
 -- where a batch may end: 0 for anywhere, or at a message behind `low`
 pub data Tops (s : Bytes) (stop low top : ℕ) : Type 0 where
@@ -98,7 +101,7 @@ pub record Draws (b : List ℕ) (n every : ℕ) (l : List ℕ) (held : ℕ) : Ty
   pub within : n ≤ 6_000
   pub some : 1 ≤ every
   pub small : every < 4_294_967_296
-  pub long : length l ≡ 962
+  pub long : length l ≡ 960
   pub few : held ≤ 960
 
 pub record Drawn (b : List ℕ) (n : ℕ) (l₀ : List ℕ) (held : ℕ) (l : List ℕ) (r : ℕ) : Type 0 where
@@ -114,59 +117,37 @@ pub data CutAt (at mid r : ℕ) : Type 0 where
   start : r ≡ at → CutAt at mid r
   middle : r ≡ mid → CutAt at mid r
 
--- a chunk is written down
-pub record Noted (l₀ : List ℕ) (c from mid over least most : ℕ) (l : List ℕ) : Type 0 where
-  pub long : length l ≡ length l₀
-  pub from_is : slice_index_or l (5 * c) 0 ≡ from
-  pub mid_is : slice_index_or l (5 * c + 1) 0 ≡ mid
-  pub over_is : slice_index_or l (5 * c + 2) 0 ≡ over
-  pub least_is : slice_index_or l (5 * c + 3) 0 ≡ least
-  pub most_is : slice_index_or l (5 * c + 4) 0 ≡ most
-  pub before : (k : ℕ) → k < 5 * c → slice_index l k ≡ slice_index l₀ k
-  pub behind : (k : ℕ) → 5 * c + 5 ≤ k → slice_index l k ≡ slice_index l₀ k
-
 -- what is asked for a chunk to be surveyed
-pub record Starts (s : Bytes) (stop at c : ℕ) (marks l : List ℕ) : Type 0 where
+pub record Starts (s : Bytes) (stop at : ℕ) (l : List ℕ) : Type 0 where
   pub stretch : Stretch s at stop
   pub ahead : at < stop
-  pub small : c < 112
-  pub marked : Marked s stop marks
   pub len : length l ≡ 6_000
 
 -- a chunk is surveyed: the buffer holds its messages
-pub record Charted (s : Bytes) (stop at : ℕ) (marks l : List ℕ) (r : Filled) : Type 0 where
-  pub cs : List ℕ
-  pub messages : Messages s at cs r.over
-  pub stretch : Stretch s r.over stop
-  pub moves : at < r.over
-  pub marked : Marked s stop marks
+pub record ChartedIs (s : Bytes) (stop at : ℕ) (l : List ℕ) (r : Charted) : Type 0 where
+  pub chunk : ChunkIs s stop r.chunk
+  pub from : r.chunk.from ≡ at
+  pub stretch : Stretch s r.chunk.over stop
+  pub moves : at < r.chunk.over
   pub len : length l ≡ 6_000
   pub few : r.n ≤ 6_000
-  pub each : (i : ℕ) → i < r.n → In (slice_index l i) cs
+  pub each : (i : ℕ) → i < r.n → In (slice_index l i) chunk.cs
 
 -- what the survey may assume
-pub record Surveys (s : Bytes) (stop : ℕ) (marks hints l : List ℕ) : Type 0 where
+pub record Surveys (s : Bytes) (stop : ℕ) (m : Map) (l : List ℕ) : Type 0 where
   pub stretch : Stretch s 8 stop
-  pub marked : Marked s stop marks
-  pub hinted : Hinted s stop hints
+  pub mapped : Mapped s stop m
   pub len : length l ≡ 6_000
 
 -- the chunks are surveyed: the first r hints are messages
-pub record Surveyed (s : Bytes) (stop : ℕ) (marks hints l : List ℕ) (r : ℕ) : Type 0 where
-  pub marked : Marked s stop marks
-  pub hinted : Hinted s stop hints
+pub record Surveyed (s : Bytes) (stop : ℕ) (m : Map) (l : List ℕ) (r : ℕ) : Type 0 where
+  pub mapped : Mapped s stop m
   pub len : length l ≡ 6_000
   pub few : r ≤ 960
-  pub each : (k : ℕ) → k < r → Hint s stop (slice_index hints k)
+  pub each : (k : ℕ) → k < r → Hint s stop (slice_index m.hints k)
 
 -- what is asked for the hints to be lined up
-pub record Lines (s : Bytes) (stop : ℕ) (hints : List ℕ) (held : ℕ) : Type 0 where
-  pub hinted : Hinted s stop hints
+pub record Lines (s : Bytes) (stop : ℕ) (m : Map) (held : ℕ) : Type 0 where
+  pub mapped : Mapped s stop m
   pub few : held ≤ 960
-  pub each : (k : ℕ) → k < held → Hint s stop (slice_index hints k)
-
--- what the survey leaves
-pub record Mapped (s : Bytes) (stop : ℕ) (marks hints l : List ℕ) : Type 0 where
-  pub marked : Marked s stop marks
-  pub hinted : Hinted s stop hints
-  pub len : length l ≡ 6_000
+  pub each : (k : ℕ) → k < held → Hint s stop (slice_index m.hints k)

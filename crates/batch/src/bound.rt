@@ -3,8 +3,9 @@ ghost use Rattle.std.specs.Prelude.{◌≡◌, ◌≤◌};
 ghost use Rattle.heard.specs.Place.{Payload};
 ghost use Rattle.batch.specs.Next.{is_above};
 ghost use Rattle.batch.specs.Keep.{Bound};
-ghost use Rattle.batch.specs.Map.{Hinted, Tops, HintAt};
+ghost use Rattle.batch.specs.Map.{Hinted, Mapped, Tops, HintAt};
 
+use crate::map::Map;
 use heard::compare::is_before;
 
 // Whether a message is behind `low`.
@@ -19,7 +20,8 @@ fn is_behind(s: &[u8], low: usize, at: usize) -> bool
 }
 
 // The first of n hints behind `low`, where they ascend.
-fn aim(s: &[u8], stop: usize, hints: &[usize; 962], n: usize, low: usize) -> usize
+// Kept: `partition_point` asks that its closure may be called on any number, and `is_before` on messages alone.
+fn aim(s: &[u8], stop: usize, hints: &[usize; 960], n: usize, low: usize) -> usize
     requires { Hinted s.now stop hints.now × Bound s.now low × (n ≤ 960) }
     ensures { result ≤ 960 }
 {
@@ -55,21 +57,21 @@ fn behind(s: &[u8], stop: usize, low: usize, x: usize) -> usize
 }
 
 // The hint at which the next batch may end.
-pub(crate) fn bound(s: &[u8], stop: usize, hints: &[usize; 962], low: usize) -> usize
-    requires { Hinted s.now stop hints.now × Bound s.now low }
+pub(crate) fn bound(s: &[u8], stop: usize, map: &Map, low: usize) -> usize
+    requires { Mapped s.now stop map.now × Bound s.now low }
     ensures { Tops s.now stop low result }
 {
-    let n = hints[960];
+    let n = map.held;
     if 960 < n {
         return 0;
     }
-    let step = hints[961];
+    let step = map.step;
     if 960 < step {
         return 0;
     }
-    let i = aim(s, stop, hints, n, low) + step;
+    let i = aim(s, stop, &map.hints, n, low) + step;
     if n <= i {
         return 0;
     }
-    behind(s, stop, low, hints[i])
+    behind(s, stop, low, map.hints[i])
 }

@@ -1,11 +1,12 @@
 // Walking the messages, with the least of those that are left in the buffer.
-ghost use Rattle.std.specs.Prelude.{◌≡◌, ◌+◌, ◌*◌, ◌<◌, ◌≤◌, length, slice_index};
+ghost use Rattle.std.specs.Prelude.{◌≡◌, ◌+◌, ◌<◌, ◌≤◌, length};
 ghost use Rattle.heard.specs.Place.{Payload, size_at};
 ghost use Rattle.heard.specs.Compare.{FrontOf};
 ghost use Rattle.batch.specs.Next.{is_above};
-ghost use Rattle.batch.specs.Map.{Marked, Stretch, Tops, Clears, Clear, is_chunk};
+ghost use Rattle.batch.specs.Map.{Mapped, ChunkIs, Stretch, Tops, Clears, Clear};
 ghost use Rattle.batch.specs.Keep.{Bound, is_up_to, is_wanted, front_or, word_or, Sifted, Fronts, Trims, Trimmed, Meets, MeetsBehind, Passed, Takes, Taken, TakesTwo, TakenTwo, Told, WalkedTo, Collected};
 
+use crate::map::{Chunk, Map};
 use heard::compare::is_before_by;
 use heard::front::{front_at, middle_at};
 use heard::place::{size_at, type_at};
@@ -17,6 +18,7 @@ pub struct Part {
     // How many offsets the buffer holds.
     pub n: usize,
     // The last message that may be held; 0: all may.
+    // Kept: `low` of `next` and the hints have 0 for none too, and a top comes from a hint.
     pub top: usize,
     // The fronts of those that may be held lie between these.
     pub least: usize,
@@ -57,8 +59,8 @@ fn part_of(s: &[u8], low: usize, n: usize, top: usize) -> Part
     ensures { (result.n ≡ n) × (result.top ≡ top) × Fronts s.now low result }
 {
     Part {
-        n: n,
-        top: top,
+        n,
+        top,
         least: front_or(s, low, 0),
         most: front_or(s, top, 18446744073709551615),
         under: word_or(s, low, 0),
@@ -151,15 +153,7 @@ fn take_in(s: &[u8], low: usize, at: usize, buf: &mut [usize; 6000], p: Part) ->
     if is_wanted(s, low, p, front_at(s, at), at) {
         let n = p.n;
         buf[n] = at;
-        let more = Part {
-            n: n + 1,
-            top: p.top,
-            least: p.least,
-            most: p.most,
-            under: p.under,
-            over: p.over,
-        };
-        return trim(s, low, buf, more);
+        return trim(s, low, buf, Part { n: n + 1, ..p });
     }
     p
 }
@@ -213,22 +207,22 @@ fn walk(
     p
 }
 
-// The messages from `from` to `over`, those before `mid` and those behind it in turns: two lengths are read at a time.
+// The messages of a chunk, those of both halves in turns: two lengths are read at a time.
 fn walk_halves(
     s: &[u8],
     stop: usize,
-    from: usize,
-    mid: usize,
-    over: usize,
+    chunk: Chunk,
     low: usize,
     buf: &mut [usize; 6000],
     start: Part,
 ) -> Part
-    requires { WalkedTo s.now stop low from buf.old start × Stretch s.now from mid × Stretch s.now mid over × (over ≤ stop) }
-    ensures { WalkedTo s.now stop low over buf.new result }
+    requires { WalkedTo s.now stop low chunk.from buf.old start × ChunkIs s.now stop chunk }
+    ensures { WalkedTo s.now stop low chunk.over buf.new result }
 {
+    let mid = chunk.mid;
+    let over = chunk.over;
     let mut p = start;
-    let mut a = from;
+    let mut a = chunk.from;
     let mut b = mid;
     while a < mid {
         let x = behind(s, a, mid);
@@ -256,51 +250,22 @@ fn is_clear(s: &[u8], low: usize, p: Part, least: usize, most: usize) -> bool
     true
 }
 
-// The messages of chunk c.
+// The messages of a chunk, where some may be to be held.
 fn walk_chunk(
     s: &[u8],
     stop: usize,
-    marks: &[usize; 560],
-    c: usize,
+    chunk: Chunk,
     low: usize,
     buf: &mut [usize; 6000],
     p: Part,
 ) -> Part
-    requires { Marked s.now stop marks.now × (c < 112) × WalkedTo s.now stop low (slice_index marks.now (5 * c)) buf.old p }
-    ensures { WalkedTo s.now stop low (slice_index marks.now (5 * c + 2)) buf.new result }
+    requires { WalkedTo s.now stop low chunk.from buf.old p × ChunkIs s.now stop chunk }
+    ensures { WalkedTo s.now stop low chunk.over buf.new result }
 {
-    if is_clear(s, low, p, marks[5 * c + 3], marks[5 * c + 4]) {
+    if is_clear(s, low, p, chunk.least, chunk.most) {
         return p;
     }
-    walk_halves(
-        s,
-        stop,
-        marks[5 * c],
-        marks[5 * c + 1],
-        marks[5 * c + 2],
-        low,
-        buf,
-        p,
-    )
-}
-
-// Whether chunk c starts at `at`.
-fn is_chunk(marks: &[usize; 560], c: usize, at: usize) -> bool
-    requires { length marks.now ≡ 560 }
-    ensures { result ≡ is_chunk marks.now c at }
-{
-    if 112 <= c {
-        return false;
-    }
-    marks[5 * c] == at
-}
-
-// Where chunk c ends.
-fn chunk_end(marks: &[usize; 560], c: usize) -> usize
-    requires { (length marks.now ≡ 560) × (c < 112) }
-    ensures { (result ≡ slice_index marks.now (5 * c + 2)) × (c < 112) }
-{
-    marks[5 * c + 2]
+    walk_halves(s, stop, chunk, low, buf, p)
 }
 
 // The least messages up to `stop` that are behind `low`, up to `first` where it is not 0.
@@ -309,19 +274,21 @@ pub(crate) fn collect(
     stop: usize,
     low: usize,
     first: usize,
-    marks: &[usize; 560],
+    map: &Map,
     buf: &mut [usize; 6000],
 ) -> Part
-    requires { Told s.now stop low × Tops s.now stop low first × Marked s.now stop marks.now × (length buf.old ≡ 6000) }
+    requires { Told s.now stop low × Tops s.now stop low first × Mapped s.now stop map.now × (length buf.old ≡ 6000) }
     ensures { Collected s.now stop low buf.new result }
 {
     let mut p = part_of(s, low, 0, first);
     let mut at = 8;
-    let mut c = 0;
-    while is_chunk(marks, c, at) {
-        p = walk_chunk(s, stop, marks, c, low, buf, p);
-        at = chunk_end(marks, c);
-        c += 1;
+    for c in 0..112 {
+        let chunk = map.chunks[c];
+        if chunk.from != at {
+            break;
+        }
+        p = walk_chunk(s, stop, chunk, low, buf, p);
+        at = chunk.over;
     }
     walk(s, stop, at, stop, low, buf, p)
 }

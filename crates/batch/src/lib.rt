@@ -3,5 +3,6 @@
 
 pub mod bound;
 pub mod collect;
+pub mod map;
 pub mod next;
 pub mod survey;

@@ -1,17 +1,14 @@
 -- A list of providers as the loop over it sees it.
-use Prim.Native.Nat.{ℕ, suc, ◌+◌, ◌-◌, ◌%◌, ◌<◌, ◌≤◌}
-use mathlib.Core.Path.{◌≡◌, refl, ap, sym, ◌∙◌}
+use Prim.Native.Nat.{ℕ, suc, ◌+◌, ◌-◌, ◌*◌, ◌/◌, ◌%◌, ◌^◌, ◌<◌, ◌≤◌}
+use mathlib.Core.Path.{◌≡◌, refl, sym}
 use mathlib.Core.List.{List, [], ◌∷◌}
-use mathlib.Core.Bool.{Bool, true, false, cond, not, ◌&&◌, and-false}
+use mathlib.Core.Bool.{Bool, true, false, not, ◌&&◌, and-false}
 use native.Mathlib.Numerals.{add-one, add-two, add-three, add-four}
 use native.Mathlib.Omega.{arith}
 use borrow.Author.Tests.{lt-ltb, le-ltb, eq-eqb, ne_eqb}
 use lib.Dec.{ltb}
 use lib.ListN.{length, drop, length-drop}
 use lib.Seq.{drop-cons}
-use Rattle.order.specs.declared.Ordering.{Ordering}
-use Rattle.order.specs.declared.Ordering.TheVariants.{Less, Equal, Greater}
-use Rattle.order.specs.Comparison.{number, is_less}
 use Rattle.serial.specs.declared.Asn.{Asn}
 use Rattle.number.specs.Number.{four_at, asn_at}
 use Rattle.body.specs.Aspa.{asns, ascending_from, ascending, is_in, sensible_asns}
@@ -35,15 +32,6 @@ asns_at s i h =
     let h3 : suc (suc (suc i)) < length s = omega arith in
     rw (add-one, add-two, add-three, add-four, drop-cons s i 0 h0, drop-cons s (suc i) 0 h1, drop-cons s (suc (suc i)) 0 h2, drop-cons s (suc (suc (suc i))) 0 h3)
 
--- the test of two numbers, by their comparison
-by_order : (m n : ℕ) (o : Ordering) → o ≡ number m n → ltb m n ≡ is_less o
-by_order m n o e = sym (go (ltb m n) (ltb n m)) ∙ ap is_less (sym e)
-  where
-    go : (s t : Bool) → is_less (cond s Less (cond t Greater Equal)) ≡ s
-    go true t = refl
-    go false true = refl
-    go false false = refl
-
 -- what ascending_asns has found at i, behind the number `before`: the rest decides
 pub record Ascended (s : List ℕ) (before : Asn) (i : ℕ) : Type 0 where
   pub within : i ≤ length s
@@ -53,32 +41,36 @@ pub ascended_none : (s : List ℕ) → length s < 4 → true ≡ ascending (asns
 unfolding ascending
 ascended_none s h = rw (short s h)
 
-pub ascended_start : (s : List ℕ) (x : Asn) → 4 ≤ length s → x ≡ asn_at s 0 → Ascended s x 4
+pub ascended_start : (s : List ℕ) (x : Asn) → 4 ≤ length s → x ≡ asn_at s 0 → Ascended s x (4 * 1)
 unfolding ascending
 ascended_start s x h e = record { within = h; rest = rw (e, asns_at s 0 h) }
 
-module _ (s : List ℕ) (before : Asn) (i : ℕ) (l : Ascended s before i) where
-  pub ascended_end : length s - i < 4 → true ≡ ascending (asns s)
+module _ (s : List ℕ) (before : Asn) (k : ℕ) (l : Ascended s before (4 * k)) where
+  pub ascended_end : length s / 4 ≤ k → true ≡ ascending (asns s)
   unfolding ascending_from
-  ascended_end h = let e = short (drop i s) (simp length-drop h) in rw (← l.rest, e)
+  ascended_end h = let e = short (drop (4 * k) s) (simp length-drop (omega arith)) in rw (← l.rest, e)
 
-  module _ (x : Asn) (o : Ordering) (h : 4 ≤ length s - i) (e : x ≡ asn_at s i) (c : o ≡ number before.0 x.0) where
-    step : ascending (asns s) ≡ is_less o && ascending_from x.0 (asns (drop (i + 4) s))
-    unfolding ascending_from
-    step =
-        let k : i + 4 ≤ length s = omega arith in
-        rw (← l.rest, asns_at s i k, ← by_order before.0 x.0 o c, e)
+  module _ (h : k < length s / 4) where
+    pub ascended_room : 4 * k + 4 ≤ length s
+    ascended_room = omega arith
 
-    pub ascended_equal : o ≡ Equal → false ≡ ascending (asns s)
-    ascended_equal d = rw (step, d)
+    pub ascended_small : length s < 2 ^ 64 → 4 * k < 2 ^ 64
+    ascended_small w = omega arith
 
-    pub ascended_greater : o ≡ Greater → false ≡ ascending (asns s)
-    ascended_greater d = rw (step, d)
+    module _ (x : Asn) (e : x ≡ asn_at s (4 * k)) where
+      step : ascending (asns s) ≡ ltb before.0 x.0 && ascending_from x.0 (asns (drop (4 * k + 4) s))
+      unfolding ascending_from
+      step = rw (← l.rest, asns_at s (4 * k) ascended_room, e)
 
-    pub ascended_more : o ≡ Less → Ascended s x (i + 4)
-    ascended_more d = record { within = omega arith; rest = sym (rw d at step) }
+      pub ascended_not : x.0 ≤ before.0 → false ≡ ascending (asns s)
+      ascended_not d = rw (step, le-ltb before.0 x.0 d)
 
-pub ruleset ascent = (ascended_none, ascended_start, ascended_end, ascended_equal, ascended_greater, ascended_more)
+      pub ascended_more : before.0 < x.0 → Ascended s x (4 * (k + 1))
+      ascended_more d =
+          let n : 4 * (k + 1) ≡ 4 * k + 4 = omega arith in
+          rw n (record { within = ascended_room; rest = sym (rw (lt-ltb before.0 x.0 d) at step) })
+
+pub ruleset ascent = (ascended_none, ascended_start, ascended_end, ascended_room, ascended_small, ascended_not, ascended_more)
 
 -- ---- unsound_asns
 

@@ -3,7 +3,6 @@ use Prim.Native.Nat.{ℕ}
 use mathlib.Core.Path.{◌≡◌, refl, ◌∙◌}
 use mathlib.Core.List.{List}
 use mathlib.Core.Bool.{Bool, true, false, ◌&&◌}
-use borrow.Author.Tests.{ne_eqb}
 use Rattle.body.specs.declared.tag.Form.{Form}
 use Rattle.body.specs.declared.tag.Form.TheVariants.{Snapshot, Delta}
 use Rattle.body.specs.declared.tag.Action.{Action}
@@ -15,22 +14,6 @@ use Rattle.body.specs.RouterKey.{good_router_key}
 use Rattle.body.specs.Aspa.{good_aspa, good_update, sensible_aspa, sensible_update}
 use Rattle.body.specs.Tag.{item_tag, change_tag, tag_of, kind_of, good_aspa_body, good_body, sensible_aspa_body, sensible}
 use Rattle.body.specs.Sound.{sound}
-
-module _ (tag k : ℕ) (t : Tag) where
-  pub item_known : tag ≡ k → t ≡ item_tag k → t ≡ item_tag tag
-  item_known e q = rw (e, q)
-
-  pub change_known : tag ≡ k → t ≡ change_tag k → t ≡ change_tag tag
-  change_known e q = rw (e, q)
-
-module _ (tag : ℕ) where
-  pub item_unknown : (tag ≡ 0x01 → ⊥) → (tag ≡ 0x02 → ⊥) → (tag ≡ 0x03 → ⊥) → Unknown ≡ item_tag tag
-  item_unknown l m n = rw (ne_eqb tag 0x01 l, ne_eqb tag 0x02 m, ne_eqb tag 0x03 n)
-
-  pub change_unknown : (tag ≡ 0x11 → ⊥) → (tag ≡ 0x12 → ⊥) → (tag ≡ 0x21 → ⊥) → (tag ≡ 0x22 → ⊥) → (tag ≡ 0x31 → ⊥) → (tag ≡ 0x32 → ⊥) → (tag ≡ 0x33 → ⊥)
-      → Unknown ≡ change_tag tag
-  change_unknown l m n o p q r =
-      rw (ne_eqb tag 0x11 l, ne_eqb tag 0x12 m, ne_eqb tag 0x21 n, ne_eqb tag 0x22 o, ne_eqb tag 0x31 p, ne_eqb tag 0x32 q, ne_eqb tag 0x33 r)
 
 module _ (form : Form) (tag : ℕ) (t : Tag) where
   pub tag_item : form ≡ Snapshot → t ≡ item_tag tag → t ≡ tag_of form tag

@@ -3,7 +3,7 @@ ghost use Rattle.std.specs.Prelude.{◌≡◌, length};
 ghost use Rattle.body.specs.Halves.{clean_halves};
 ghost use Rattle.body.specs.Origin.{address, clean, good_prefix, good_origin};
 
-use number::{wide, word_at};
+use number::word_at;
 
 // Whether an address, by its halves, has no bit past a prefix of p bits.
 pub fn clean_halves(p: usize, high: usize, low: usize) -> bool
@@ -34,8 +34,8 @@ fn prefix_ok(bound: usize, body: &[u8]) -> bool
     requires { length body.now ≡ 23 }
     ensures { result ≡ good_prefix bound body.now }
 {
-    let prefix = wide(body[17]);
-    let maximum = wide(body[18]);
+    let prefix = usize::from(body[17]);
+    let maximum = usize::from(body[18]);
     if maximum < prefix {
         return false;
     }

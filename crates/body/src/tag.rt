@@ -8,14 +8,14 @@ use crate::origin::origin_ok;
 use crate::router_key::router_key_ok;
 
 // The runs of fields that there are.
-#[derive(Clone, Copy)]
+#[derive(Clone, Copy, PartialEq, Eq)]
 pub enum Form {
     Snapshot,
     Delta,
 }
 
 // What a field does with its item: a snapshot holds it.
-#[derive(Clone, Copy)]
+#[derive(Clone, Copy, PartialEq, Eq)]
 pub enum Action {
     Hold,
     Announce,
@@ -24,7 +24,8 @@ pub enum Action {
 }
 
 // What a tag says: the kind of the item, and the action.
-#[derive(Clone, Copy)]
+// Kept: the clauses of `good_body` and `sensible` go by these four.
+#[derive(Clone, Copy, PartialEq, Eq)]
 pub enum Tag {
     Unknown,
     Origin(Action),
@@ -33,6 +34,7 @@ pub enum Tag {
 }
 
 // A snapshot's tag.
+// Kept: this and the next are document 01's two tables of tags.
 fn item_tag(tag: u8) -> Tag
     ensures { result ≡ item_tag tag }
 {
@@ -87,9 +89,7 @@ pub fn aspa_body_ok(action: Action, body: &[u8]) -> bool
     ensures { result ≡ good_aspa_body action body.now }
 {
     match action {
-        Action::Hold => aspa_ok(body),
-        Action::Announce => aspa_ok(body),
-        Action::Withdraw => aspa_ok(body),
+        Action::Hold | Action::Announce | Action::Withdraw => aspa_ok(body),
         Action::Update => update_ok(body),
     }
 }
@@ -99,9 +99,7 @@ fn aspa_body_sound(action: Action, body: &[u8]) -> bool
     ensures { result ≡ good_aspa_body action body.now && sensible_aspa_body action body.now }
 {
     match action {
-        Action::Hold => aspa_sound(body),
-        Action::Announce => aspa_sound(body),
-        Action::Withdraw => aspa_sound(body),
+        Action::Hold | Action::Announce | Action::Withdraw => aspa_sound(body),
         Action::Update => update_sound(body),
     }
 }

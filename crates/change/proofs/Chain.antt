@@ -4,7 +4,7 @@ use mathlib.Core.List.{List, [], ◌∷◌, map, foldl}
 use mathlib.Core.Option.{none}
 use Prim.Native.Nat.{ℕ, zero, suc}
 use lib.ListN.{drop}
-use Rattle.order.specs.declared.Ordering.{Ordering}
+use Rattle.std.specs.declared.cmp.Ordering.{Ordering}
 use Rattle.order.specs.Comparison.{TotalOrder}
 use Rattle.order.specs.Map.{All, lookup, Sorted}
 use Rattle.order.proofs.Many.{fold_lookup}

@@ -1,7 +1,7 @@
 -- Merges along a chain of snapshots come to the same in whatever way they are grouped.
 use mathlib.Core.Path.{◌≡◌, refl, sym, ap, ◌∙◌}
 use mathlib.Core.List.{List, [], ◌∷◌, ◌++◌}
-use Rattle.order.specs.declared.Ordering.{Ordering}
+use Rattle.std.specs.declared.cmp.Ordering.{Ordering}
 use Rattle.order.specs.Comparison.{TotalOrder}
 use Rattle.order.specs.Map.{All, Sorted}
 use Rattle.order.proofs.Never.{never}

@@ -3,8 +3,8 @@ use mathlib.Core.Path.{◌≡◌, refl}
 use mathlib.Core.List.{[], ◌∷◌}
 use mathlib.Core.Option.{some}
 use mathlib.Core.Bool.{true}
-use Rattle.order.specs.declared.Ordering.{Ordering}
-use Rattle.order.specs.declared.Ordering.TheVariants.{Less, Equal, Greater}
+use Rattle.std.specs.declared.cmp.Ordering.{Ordering}
+use Rattle.std.specs.declared.cmp.Ordering.TheVariants.{Less, Equal, Greater}
 use Rattle.order.specs.Comparison.{TotalOrder}
 use Rattle.order.specs.Map.{Item, All, own, lookup, Sorted}
 use Rattle.order.proofs.Map.{absent_at}

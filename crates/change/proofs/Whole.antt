@@ -1,7 +1,7 @@
 -- Difference, merge and application of whole snapshots and deltas.
 use mathlib.Core.Path.{◌≡◌, refl, ap, ◌∙◌}
 use mathlib.Core.List.{[], ◌∷◌, map}
-use Rattle.order.specs.declared.Ordering.{Ordering}
+use Rattle.std.specs.declared.cmp.Ordering.{Ordering}
 use Rattle.order.specs.Comparison.{TotalOrder}
 use Rattle.order.specs.Map.{Item, lookup, Sorted}
 use Rattle.order.proofs.Map.{ext}

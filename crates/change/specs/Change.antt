@@ -1,7 +1,7 @@
 -- What may become of one key. The value of an ASPA is its providers; an origin or a router key has the empty value.
 use Rattle.std.proofs.Math.Option.{Option, none, some}
-use Rattle.order.specs.declared.Ordering.{Ordering}
-use Rattle.order.specs.declared.Ordering.TheVariants.{Less, Equal, Greater}
+use Rattle.std.specs.declared.cmp.Ordering.{Ordering}
+use Rattle.std.specs.declared.cmp.Ordering.TheVariants.{Less, Equal, Greater}
 
 pub data Change (W : Type 0) : Type 0 where
   announce : (new : W) → Change W

@@ -1,7 +1,7 @@
 -- The difference of two snapshots: what leads from the old one to the new one.
 use Rattle.std.specs.Prelude.{List}
 use Rattle.std.proofs.Math.Option.{Option, none, some}
-use Rattle.order.specs.declared.Ordering.{Ordering}
+use Rattle.std.specs.declared.cmp.Ordering.{Ordering}
 use Rattle.order.specs.Map.{Item}
 use Rattle.order.specs.Walk.{walk}
 use Rattle.change.specs.Change.{Change, announce, withdraw, replace}

@@ -1,7 +1,7 @@
 -- The merge of two deltas, the earlier one first.
 use mathlib.Core.List.{List, [], foldl}
 use Rattle.std.proofs.Math.Option.{Option, none, some}
-use Rattle.order.specs.declared.Ordering.{Ordering}
+use Rattle.std.specs.declared.cmp.Ordering.{Ordering}
 use Rattle.order.specs.Walk.{walk}
 use Rattle.change.specs.Change.{Change, announce, withdraw, update, replace}
 use Rattle.change.specs.Difference.{Delta}

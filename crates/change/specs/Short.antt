@@ -1,6 +1,6 @@
 -- How short a delta can be that leads from one snapshot to another.
 use Rattle.std.specs.Prelude.{◌≤◌, ◌≡◌, length}
-use Rattle.order.specs.declared.Ordering.{Ordering}
+use Rattle.std.specs.declared.cmp.Ordering.{Ordering}
 use Rattle.order.specs.Map.{Sorted}
 use Rattle.change.specs.Difference.{Snapshot, Delta, diff}
 use Rattle.change.specs.Application.{apply, Applies}

@@ -1,5 +1,5 @@
 -- Laws of fronts: they are ordered as the keys are.
-use Prim.Native.Nat.{ℕ, ◌+◌, ◌*◌, ◌-◌, ◌/◌, ◌≤◌, ◌<◌}
+use Prim.Native.Nat.{ℕ, zero, suc, ◌+◌, ◌*◌, ◌-◌, ◌/◌, ◌≤◌, ◌<◌}
 use mathlib.Core.Path.{◌≡◌, refl, sym, ap, ◌∙◌}
 use mathlib.Core.List.{◌∷◌}
 use mathlib.Core.Bool.{Bool, true, false, cond}
@@ -18,8 +18,6 @@ use Rattle.field.specs.declared.key.Key.{Key}
 use Rattle.field.specs.Places.{key_in}
 use Rattle.payload.specs.Content.{Bytes, entry_of}
 use Rattle.item.specs.declared.place.Entry.{Entry}
-use Rattle.item.specs.declared.reading.Read.{Read}
-use Rattle.item.specs.declared.reading.Read.TheVariants.{End, One}
 use Rattle.item.specs.Place.{KeyIn}
 use Rattle.item.proofs.Places.{drop_take}
 use Rattle.cursors.specs.Cursor.{run, Stands, Heads}
@@ -28,6 +26,7 @@ use Rattle.item.proofs.Heres.{low_kind, here, cell, next, said, front_is, octets
 use Rattle.item.proofs.Fronts.{drop_bytes, take_bytes, cons_bytes}
 use Rattle.cursors.specs.Front.{Fronts}
 use Rattle.cursors.proofs.Standing.{head_end, head_is_lem, head_fits}
+use Rattle.std.specs.Prelude.{None, Option, Some}
 
 -- ---- digit
 
@@ -49,38 +48,91 @@ next_part s i j to q =
     let z : i + 1 ≡ j = sym q in
     sym (drop_take 1 (to - i) (drop i s) ∙ rw (e, drop-drop 1 i s, z))
 
-module _ (s : Bytes) (k : Key) (a b c d e f g h : ℕ) (qa : a ≡ k.kind) where
-  pub front_digits : b ≡ get_or (part s k.from k.to) 0 0 → c ≡ get_or (part s (k.from + 1) k.to) 0 0 → d ≡ get_or (part s (k.from + 2) k.to) 0 0 →
-      e ≡ get_or (part s (k.from + 3) k.to) 0 0 → f ≡ get_or (part s (k.from + 4) k.to) 0 0 → g ≡ get_or (part s (k.from + 5) k.to) 0 0 →
-      h ≡ get_or (part s (k.from + 6) k.to) 0 0 →
-      ((((((a * 256 + b) * 256 + c) * 256 + d) * 256 + e) * 256 + f) * 256 + g) * 256 + h ≡ front_key (key_in s k)
-  unfolding packs
-  front_digits qb qc qd qe qf qg qh =
-      let z : 0 * 256 + k.kind ≡ k.kind = omega arith in
-      let e1 : part s (k.from + 1) k.to ≡ drop 1 (part s k.from k.to) = next_part s k.from (k.from + 1) k.to refl in
-      let e2 : part s (k.from + 2) k.to ≡ drop 1 (part s (k.from + 1) k.to) = next_part s (k.from + 1) (k.from + 2) k.to (omega arith) in
-      let e3 : part s (k.from + 3) k.to ≡ drop 1 (part s (k.from + 2) k.to) = next_part s (k.from + 2) (k.from + 3) k.to (omega arith) in
-      let e4 : part s (k.from + 4) k.to ≡ drop 1 (part s (k.from + 3) k.to) = next_part s (k.from + 3) (k.from + 4) k.to (omega arith) in
-      let e5 : part s (k.from + 5) k.to ≡ drop 1 (part s (k.from + 4) k.to) = next_part s (k.from + 4) (k.from + 5) k.to (omega arith) in
-      let e6 : part s (k.from + 6) k.to ≡ drop 1 (part s (k.from + 5) k.to) = next_part s (k.from + 5) (k.from + 6) k.to (omega arith) in
-      rw (qa, qb, qc, qd, qe, qf, qg, qh, z, e6, e5, e4, e3, e2, e1)
+-- m more bytes behind a number leave it below the top
+unfoldable pub Room : ℕ → ℕ → Type 0
+Room v zero = v < top
+Room v (suc m) = Room (v * 256 + 255) m
 
-  pub front_low : KeyIn s k → b < 256 → c < 256 → d < 256 → e < 256 → f < 256 → g < 256 → h < 256 →
-      ((((((a * 256 + b) * 256 + c) * 256 + d) * 256 + e) * 256 + f) * 256 + g) * 256 + h < top
-  front_low i hb hc hd he hf hg hh = omega (arith, i.kind)
+room_less : (m v w : ℕ) → v ≤ w → Room w m → Room v m
+unfolding Room
+room_less zero v w h r = omega (arith, r)
+room_less (suc m) v w h r = room_less m (v * 256 + 255) (w * 256 + 255) (omega arith) r
 
-pub ruleset keyed = (front_digits, front_low)
+room_low : (m v : ℕ) → Room v m → v < top
+unfolding Room
+room_low zero v r = r
+room_low (suc m) v r = omega (arith, room_low m (v * 256 + 255) r)
+
+-- the bytes up to i are packed, and the others give the front
+pub record Packing (s : Bytes) (k : Key) (front i : ℕ) : Type 0 where
+  pub key : KeyIn s k
+  pub until : i ≤ k.from + 7
+  pub room : Room front (k.from + 7 - i)
+  pub left : packs front (k.from + 7 - i) (part s i k.to) ≡ front_key (key_in s k)
+
+pub pack_start : (s : Bytes) (k : Key) → KeyIn s k → Packing s k k.kind k.from
+unfolding packs Room
+pack_start s k i =
+    let z : 0 * 256 + k.kind ≡ k.kind = omega arith in
+    let e : k.from + 7 - k.from ≡ 7 = omega arith in
+    record {
+      key = i;
+      until = omega arith;
+      room = rw e (room_less 7 k.kind 3 (omega (arith, i.kind)) (omega arith));
+      left = rw (e, z);
+    }
+
+module _ (s : Bytes) (k : Key) (front i : ℕ) (p : Packing s k front i) where
+  module _ (h : i < k.from + 7) where
+    more : k.from + 7 - i ≡ suc (k.from + 7 - (i + 1))
+    more = omega arith
+
+    room : Room (front * 256 + 255) (k.from + 7 - (i + 1))
+    unfolding Room
+    room = rw more at p.room
+
+    low : front * 256 + 255 < top
+    low = room_low (k.from + 7 - (i + 1)) (front * 256 + 255) room
+
+    pub pack_wide : front * 256 < 18_446_744_073_709_551_616
+    pack_wide = omega (arith, low)
+
+    module _ (d : ℕ) (b : d < 256) where
+      pub pack_fits : front * 256 + d < 18_446_744_073_709_551_616
+      pack_fits = omega (arith, low)
+
+      pub pack_again : d ≡ get_or (part s i k.to) 0 0 → Packing s k (front * 256 + d) (i + 1)
+      unfolding packs
+      pack_again e = record {
+        key = p.key;
+        until = omega arith;
+        room = room_less (k.from + 7 - (i + 1)) (front * 256 + d) (front * 256 + 255) (omega arith) room;
+        left = rw (next_part s i (i + 1) k.to refl, e) (rw more at p.left);
+      }
+
+  module _ (h : k.from + 7 ≤ i) where
+    none : k.from + 7 - i ≡ 0
+    none = omega arith
+
+    pub pack_done : front ≡ front_key (key_in s k)
+    unfolding packs
+    pack_done = rw none at p.left
+
+    pub pack_low : front < top
+    pack_low = room_low (k.from + 7 - i) front p.room
+
+pub ruleset packing = (pack_start, pack_wide, pack_fits, pack_again, pack_done, pack_low)
 
 -- ---- front_at
 
-module _ (s : Bytes) (p e : ℕ) (r : Read) (h : Heads s p e r) where
-  pub front_end : r ≡ End → Fronts s p e top
+module _ (s : Bytes) (p e : ℕ) (r : Option Entry) (h : Heads s p e r) where
+  pub front_end : r ≡ None → Fronts s p e top
   front_end q = let z = head_end s p e r h q in record { is = rw z; octets = rw z tt }
 
-  pub front_key_lem : (x : Entry) → r ≡ One x → KeyIn s x.key
+  pub front_key_lem : (x : Entry) → r ≡ Some x → KeyIn s x.key
   front_key_lem x q = (head_fits s p e r h x q).key
 
-  pub front_one : (x : Entry) → r ≡ One x → (v : ℕ) → v ≡ front_key (key_in s x.key) → v < top → ((i : ℕ) → Fits w8 (get_or s i 0)) → Fronts s p e v
+  pub front_one : (x : Entry) → r ≡ Some x → (v : ℕ) → v ≡ front_key (key_in s x.key) → v < top → ((i : ℕ) → Fits w8 (get_or s i 0)) → Fronts s p e v
   front_one x q v ev low o =
       let ki = front_key_lem x q in
       let z = head_is_lem s p e r h x q in

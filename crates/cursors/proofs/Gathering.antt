@@ -7,43 +7,27 @@ use mathlib.Core.Bool.{Bool, true}
 use native.Mathlib.Omega.{arith}
 use native.Mathlib.Decide.{ℕ_discrete}
 use lib.ListN.{length, get_or, set, length-set}
-use lib.Seq.{get_or-set_same, get_or-set_other, set-get_or}
-use Rattle.order.specs.declared.Ordering.{Ordering}
-use Rattle.order.specs.declared.Ordering.TheVariants.{Less, Equal, Greater}
+use lib.Seq.{get_or-set_same, get_or-set_other}
+use Rattle.std.specs.declared.cmp.Ordering.{Ordering}
+use Rattle.std.specs.declared.cmp.Ordering.TheVariants.{Less, Equal, Greater}
 use Rattle.order.specs.Comparison.{bytes}
 use Rattle.order.specs.Map.{own}
 use Rattle.order.specs.Many.{first, past, past_of}
 use Rattle.order.proofs.Comparison.{strings}
-use Rattle.change.specs.Merge.{merge_at, table}
+use Rattle.change.specs.Merge.{merge_at}
 use Rattle.change.proofs.Tables.{none_merge}
-use Rattle.field.specs.If.{If}
 use Rattle.payload.specs.Content.{Bytes}
 use Rattle.item.specs.declared.place.Act.{Act}
-use Rattle.item.specs.declared.place.Held.{Held}
-use Rattle.item.specs.declared.place.Held.TheVariants.{Nothing, Is}
-use Rattle.item.specs.Place.{change_in, held_in, ActFits, Holds}
-use Rattle.cursors.specs.declared.said.Said.{Said}
-use Rattle.cursors.specs.declared.said.Said.TheVariants as said
+use Rattle.item.specs.Place.{held_in}
 use Rattle.cursors.specs.Cursor.{D, run, runs_n, runs, Stands, Within, key_at, Filled, HeldAt, ChangeFits, Says, Gathered}
 use Rattle.item.specs.Front.{front_key, top}
-use Rattle.cursors.specs.Front.{front_of, Fronts, Blocks, Finds, Settled, Fronted, lined, line, key_of_run, Meets, Advances, Advanced, Takes, Taken}
+use Rattle.cursors.specs.Front.{front_of, Fronts, Blocks, Finds, Settled, Fronted, lined, line, key_of_run, Meets, Takes, Taken}
+use Rattle.cursors.specs.declared.runs.Walk.{Walk}
+use Rattle.cursors.specs.Walk.{InLine, Kept, Took}
 use Rattle.cursors.proofs.Standing.{runs_cons, runs_nil}
+use Rattle.cursors.proofs.Keeping.{kept_self, kept_both}
 use Rattle.cursors.proofs.Leasting.{filled_low}
-
--- ---- join
-
-module _ (s : Bytes) (h : Held) (a : Act) where
-  pub join_first : h ≡ Nothing → ActFits s s a → Holds s s (merge_at bytes (held_in s s h) (some (change_in s s a))) (Is a)
-  join_first q f = record { fits = f; is = rw q }
-
-  module _ (b : Act) (q : h ≡ Is b) where
-    pub join_fits : HeldAt s h → ActFits s s b
-    join_fits i = rw q at i.fits
-
-    pub join_both : (r : Held) → Holds s s (table bytes (change_in s s b) (change_in s s a)) r → Holds s s (merge_at bytes (held_in s s h) (some (change_in s s a))) r
-    join_both r t = rw q t
-
-pub ruleset joining = (join_first, join_fits, join_both)
+use Rattle.std.specs.Prelude.{None, Option, Some}
 
 -- ---- gather: what is merged of the changes, with those that are left; each run that was asked is past the key
 
@@ -56,7 +40,7 @@ runs_past s at₀ at ends k r zero h = refl
 runs_past s at₀ at ends k r (suc m) h =
     cc (h r (omega arith) (omega arith), runs_past s at₀ at ends k (suc r) m (λ j a b. h j (omega arith) (omega arith)))
 
-pub record Gathered-to (s : Bytes) (at₀ ends : List ℕ) (from n : ℕ) (k : Bytes) (at : List ℕ) (held : Held) (r : ℕ) : Type 0 where
+pub record Gathered-to (s : Bytes) (at₀ ends : List ℕ) (from n : ℕ) (k : Bytes) (at : List ℕ) (held : Option Act) (r : ℕ) : Type 0 where
   pub within : Within s at ends n
   pub same_long : length at ≡ length at₀
   pub inside : HeldAt s held
@@ -65,7 +49,7 @@ pub record Gathered-to (s : Bytes) (at₀ ends : List ℕ) (from n : ℕ) (k : B
   pub kept : (j : ℕ) → r ≤ j → get_or at j 0 ≡ get_or at₀ j 0
   pub gone : (j : ℕ) → from ≤ j → j < r → run s (get_or at j 0) (get_or ends j 0) ≡ past bytes k (run s (get_or at₀ j 0) (get_or ends j 0))
 
-old_start : (s : Bytes) (at ends : List ℕ) (from n : ℕ) (k : Bytes) → Within s at ends n → Gathered-to s at ends from n k at Nothing from
+old_start : (s : Bytes) (at ends : List ℕ) (from n : ℕ) (k : Bytes) → Within s at ends n → Gathered-to s at ends from n k at None from
 old_start s at ends from n k w = record {
   within = w;
   same_long = refl;
@@ -75,9 +59,9 @@ old_start s at ends from n k w = record {
   gone = λ j h g. absurd (omega arith);
 }
 
-module _ (s : Bytes) (at₀ ends : List ℕ) (from n : ℕ) (k : Bytes) (at : List ℕ) (held : Held) (r : ℕ) (i : Gathered-to s at₀ ends from n k at held r) where
-  module _ (h : r < n) (a : Said) (u : Says s (get_or at r 0) (get_or ends r 0) k a) where
-    old_pass : a ≡ said.Nothing → Gathered-to s at₀ ends from n k at held (r + 1)
+module _ (s : Bytes) (at₀ ends : List ℕ) (from n : ℕ) (k : Bytes) (at : List ℕ) (held : Option Act) (r : ℕ) (i : Gathered-to s at₀ ends from n k at held r) where
+  module _ (h : r < n) (a : Option (Act × ℕ)) (u : Says s (get_or at r 0) (get_or ends r 0) k a) where
+    old_pass : a ≡ None → Gathered-to s at₀ ends from n k at held (r + 1)
     old_pass q = record {
       within = i.within;
       same_long = i.same_long;
@@ -101,8 +85,8 @@ module _ (s : Bytes) (at₀ ends : List ℕ) (from n : ℕ) (k : Bytes) (at : Li
     gone = runs_past s at₀ at ends k from (n - from) (λ j a b. i.gone j a (omega arith));
   }
 
-old_take : (s : Bytes) (at₀ ends : List ℕ) (from n q g : ℕ) (at : List ℕ) (held : Held) (r : ℕ) → Gathered-to s at₀ ends from n (key_at s q g) at held r →
-    r < n → (at' f₀ f : List ℕ) (t : Held) → Taken s at at' ends f₀ f r q g held t → Gathered-to s at₀ ends from n (key_at s q g) at' t (r + 1)
+old_take : (s : Bytes) (at₀ ends : List ℕ) (from n q g : ℕ) (at : List ℕ) (held : Option Act) (r : ℕ) → Gathered-to s at₀ ends from n (key_at s q g) at held r →
+    r < n → (at' f₀ f : List ℕ) (t : Option Act) → Taken s at at' ends f₀ f r q g held t → Gathered-to s at₀ ends from n (key_at s q g) at' t (r + 1)
 old_take s at₀ ends from n q g at held r i h at' f₀ f t u = record {
   within = record {
     few = i.within.few;
@@ -140,18 +124,18 @@ other_front k (x ∷ d) h = go (bytes k x.key) refl
     go Equal e = absurd (h (ap front_key (sym (strings.same k x.key e))))
     go Greater e = (refl, refl)
 
-says_nothing : (s : Bytes) (p e : ℕ) (k : Bytes) → (front_of (run s p e) ≡ front_key k → ⊥) → Says s p e k said.Nothing
+says_nothing : (s : Bytes) (p e : ℕ) (k : Bytes) → (front_of (run s p e) ≡ front_key k → ⊥) → Says s p e k None
 says_nothing s p e k h = let o = other_front k (run s p e) h in record { fits = tt; change = o.0; gone = sym o.1 }
 
 -- closed: a search does not look into it
-pub data So-far (s : Bytes) (at₀ ends : List ℕ) (from n : ℕ) (k : Bytes) (at : List ℕ) (held : Held) (r : ℕ) : Type 0 where
+pub data So-far (s : Bytes) (at₀ ends : List ℕ) (from n : ℕ) (k : Bytes) (at : List ℕ) (held : Option Act) (r : ℕ) : Type 0 where
   so : Gathered-to s at₀ ends from n k at held r → So-far s at₀ ends from n k at held r
 
-abbrev to_now : {s : Bytes} {at₀ ends : List ℕ} {from n : ℕ} {k : Bytes} {at : List ℕ} {held : Held} {r : ℕ} → So-far s at₀ ends from n k at held r →
+abbrev to_now : {s : Bytes} {at₀ ends : List ℕ} {from n : ℕ} {k : Bytes} {at : List ℕ} {held : (Option Act)} {r : ℕ} → So-far s at₀ ends from n k at held r →
     Gathered-to s at₀ ends from n k at held r
 to_now (so g) = g
 
-pass_many : (s : Bytes) (at₀ ends : List ℕ) (from n : ℕ) (k : Bytes) (at f : List ℕ) (held : Held) (low r m : ℕ) → from ≤ r → r + m ≤ n →
+pass_many : (s : Bytes) (at₀ ends : List ℕ) (from n : ℕ) (k : Bytes) (at f : List ℕ) (held : Option Act) (low r m : ℕ) → from ≤ r → r + m ≤ n →
     Gathered-to s at₀ ends from n k at held r → Fronted s at ends from n f → low ≡ front_key k →
     ((j : ℕ) → r ≤ j → j < r + m → j < n → get_or f j 0 ≡ low → ⊥) → Gathered-to s at₀ ends from n k at held (r + m)
 pass_many s at₀ ends from n k at f held low r zero a b i t e q = let z : r + 0 ≡ r = omega arith in rw z i
@@ -159,12 +143,12 @@ pass_many s at₀ ends from n k at f held low r (suc m) a b i t e q =
     let z : r + suc m ≡ r + m + 1 = omega arith in
     rw z (old_pass s at₀ ends from n k at held (r + m)
     (pass_many s at₀ ends from n k at f held low r m a (omega arith) i t e (λ j x y z. q j x (omega arith) z))
-    (omega arith) said.Nothing
+    (omega arith) None
     (says_nothing s (get_or at (r + m) 0) (get_or ends (r + m) 0) k
     (λ z. q (r + m) (omega arith) (omega arith) (omega arith) (((line t).each (r + m) (omega arith) (omega arith)).is ∙ z ∙ sym e)))
     refl)
 
-pub record Gathering (s : Bytes) (at₀ ends : List ℕ) (f₀ : List ℕ) (low from n first last q g : ℕ) (same : Bool) (at f : List ℕ) (held : Held) (r : ℕ) : Type 0 where
+pub record Gathering (s : Bytes) (at₀ ends : List ℕ) (f₀ : List ℕ) (low from n first last q g : ℕ) (same : Bool) (at f : List ℕ) (held : Option Act) (r : ℕ) : Type 0 where
   pub alike : same ≡ true → (j : ℕ) → first ≤ j → r ≤ j → j ≤ last → get_or f j 0 ≡ low → key_of_run s at ends j ≡ key_at s q g
   pub key : Filled s q g
   pub few : n ≤ 64
@@ -180,8 +164,8 @@ pub record Gathering (s : Bytes) (at₀ ends : List ℕ) (f₀ : List ℕ) (low 
   pub front : low ≡ front_key (key_at s q g)
   pub behind : (j : ℕ) → last < j → j < n → get_or f j 0 ≡ low → ⊥
 
-pub gather_start : (s : Bytes) (at ends f : List ℕ) (low from n first last q g : ℕ) (same : Bool) → Meets s at ends from n f low first last q g same →
-    Gathering s at ends f low from n first last q g same at f Nothing first
+gather_start : (s : Bytes) (at ends f : List ℕ) (low from n first last q g : ℕ) (same : Bool) → Meets s at ends from n f low first last q g same →
+    Gathering s at ends f low from n first last q g same at f None first
 gather_start s at ends f low from n first last q g same m =
     let t = m.tied in
     let z : from + (first - from) ≡ first = omega (arith, t.ahead) in
@@ -196,18 +180,18 @@ gather_start s at ends f low from n first last q g same m =
       start = t.ahead;
       until = omega (arith, t.ordered);
       inside = t.inside;
-      so_far = so (rw z at (pass_many s at ends from n (key_at s q g) at f Nothing low from (first - from) (omega arith) (omega (arith, z, t.ordered, t.inside))
+      so_far = so (rw z at (pass_many s at ends from n (key_at s q g) at f None low from (first - from) (omega arith) (omega (arith, z, t.ordered, t.inside))
           (old_start s at ends from n (key_at s q g) m.within) m.fronted m.front (λ j x y u e. omega (arith, z, (t.others j x u e).0))));
       fronted = m.fronted;
       front = m.front;
       behind = λ j x y e. omega (arith, (t.others j (omega (arith, t.ahead, t.ordered)) y e).1);
     }
 
-module _ (s : Bytes) (at₀ ends f₀ : List ℕ) (low from n first last q g : ℕ) (same : Bool) (at f : List ℕ) (held : Held) (r : ℕ) (i : Gathering s at₀ ends f₀ low from n first last q g same at f held r) where
-  pub gather_blocks : Blocks f
+module _ (s : Bytes) (at₀ ends f₀ : List ℕ) (low from n first last q g : ℕ) (same : Bool) (at f : List ℕ) (held : Option Act) (r : ℕ) (i : Gathering s at₀ ends f₀ low from n first last q g same at f held r) where
+  gather_blocks : Blocks f
   gather_blocks = (line i.fronted).blocks
 
-  pub gather_room : last + 1 ≤ 64
+  gather_room : last + 1 ≤ 64
   gather_room = omega (arith, i.inside, i.few)
 
   module _ (p : ℕ) (t : Finds f low r (last + 1) p) where
@@ -217,7 +201,7 @@ module _ (s : Bytes) (at₀ ends f₀ : List ℕ) (low from n first last q g : �
         rw z at (pass_many s at₀ ends from n (key_at s q g) at f held low r (c - r) i.start (omega (arith, z, i.inside)) (to_now i.so_far) i.fronted i.front
         (λ j x y w. t.other j x (omega (arith, z)) (omega (arith, z))))
 
-    pub gather_takes : p ≤ last → Takes s at ends f p q g same held
+    gather_takes : p ≤ last → Takes s at ends f p q g same held
     gather_takes h =
         let c = to_now i.so_far in
         let e = (line i.fronted).each p (omega (arith, i.start, t.ahead)) (omega (arith, i.inside)) in
@@ -233,7 +217,7 @@ module _ (s : Bytes) (at₀ ends f₀ : List ℕ) (low from n first last q g : �
           inside = c.inside;
         }
 
-    pub gather_again : p ≤ last → (at' f' : List ℕ) (c : Held) → Taken s at at' ends f f' p q g held c → Gathering s at₀ ends f₀ low from n first last q g same at' f' c (p + 1)
+    gather_again : p ≤ last → (at' f' : List ℕ) (c : Option Act) → Taken s at at' ends f f' p q g held c → Gathering s at₀ ends f₀ low from n first last q g same at' f' c (p + 1)
     gather_again h at' f' c u = record {
       alike = λ z j x l o e. rw (u.moved, get_or-set_other at p j u.place 0 (λ d. omega arith)) (i.alike z j x (omega (arith, t.ahead)) o (sym (y.others j (omega (arith, i.few, i.inside)) (λ d. omega arith)) ∙ e));
       begin = omega (arith, i.begin, t.ahead);
@@ -266,7 +250,7 @@ module _ (s : Bytes) (at₀ ends f₀ : List ℕ) (low from n first last q g : �
         each j l o (yes d) = rw (d, here, y.here) u.fronts.is
         each j l o (no d) = rw (get_or-set_other at p j u.place 0 d, y.others j (omega (arith, i.few)) d) ((line i.fronted).each j l o)
 
-    pub gather_done : last < p → Gathered s at₀ at ends from n (key_at s q g) held
+    gather_done : last < p → Gathered s at₀ at ends from n (key_at s q g) held
     gather_done h =
         let z : last + 1 + (n - (last + 1)) ≡ n = omega (arith, i.inside) in
         old_done s at₀ ends from n (key_at s q g) at held n
@@ -274,60 +258,51 @@ module _ (s : Bytes) (at₀ ends f₀ : List ℕ) (low from n first last q g : �
         (reach (last + 1) i.until (omega arith) (omega arith)) i.fronted i.front (λ j x y w. i.behind j (omega arith) w)))
         (omega arith)
 
-  pub gather_fronted : Fronted s at ends from n f
-  gather_fronted = i.fronted
+-- ---- gather, of a walk
+
+-- the walk is over the same runs, and so far the changes are gathered
+pub record GatheringOn (w₀ : Walk) (low first last q g : ℕ) (same : Bool) (w : Walk) (held : Option Act) (r : ℕ) : Type 0 where
+  pub kept : Kept w₀ w
+  pub on : Gathering w₀.store.now w₀.at w₀.ends w₀.fronts.of low w₀.from w₀.n first last q g same w.at w.fronts.of held r
+
+pub on_start : (w : Walk) (low first last q g : ℕ) (same : Bool) → Meets w.store.now w.at w.ends w.from w.n w.fronts.of low first last q g same →
+    GatheringOn w low first last q g same w None first
+on_start w low first last q g same m = record { kept = kept_self w; on = gather_start w.store.now w.at w.ends w.fronts.of low w.from w.n first last q g same m }
+
+module _ (w₀ : Walk) (low first last q g : ℕ) (same : Bool) (w : Walk) (held : Option Act) (r : ℕ) (i : GatheringOn w₀ low first last q g same w held r) where
+  pub on_blocks : Blocks w.fronts.of
+  on_blocks = (line i.on.fronted).blocks
+
+  pub on_room : last + 1 ≤ 64
+  on_room = gather_room w₀.store.now w₀.at w₀.ends w₀.fronts.of low w₀.from w₀.n first last q g same w.at w.fronts.of held r i.on
+
+  module _ (p : ℕ) (t : Finds w.fronts.of low r (last + 1) p) where
+    pub on_takes : p ≤ last → Takes w.store.now w.at w.ends w.fronts.of p q g same held
+    on_takes h = rw (i.kept.store, i.kept.ends) (gather_takes w₀.store.now w₀.at w₀.ends w₀.fronts.of low w₀.from w₀.n first last q g same w.at w.fronts.of held r i.on p t h)
+
+    pub on_again : p ≤ last → (w' : Walk) (c : Option Act) → Taken w.store.now w.at w'.at w.ends w.fronts.of w'.fronts.of p q g held c → Kept w w' →
+        GatheringOn w₀ low first last q g same w' c (p + 1)
+    on_again h w' c u k = record {
+      kept = kept_both w₀ w w' i.kept k;
+      on = gather_again w₀.store.now w₀.at w₀.ends w₀.fronts.of low w₀.from w₀.n first last q g same w.at w.fronts.of held r i.on p t h w'.at w'.fronts.of c
+          (rw (i.kept.store, i.kept.ends) at u);
+    }
+
+    pub on_done : last < p → Took w₀ w q g held
+    on_done h = gather_done w₀.store.now w₀.at w₀.ends w₀.fronts.of low w₀.from w₀.n first last q g same w.at w.fronts.of held r i.on p t h
+
+  pub on_line : InLine w
+  on_line = rw (i.kept.store, i.kept.ends, i.kept.from, i.kept.n) i.on.fronted
+
+  pub on_kept : Kept w₀ w
+  on_kept = i.kept
+
+pub ruleset gathering = (on_start, on_blocks, on_room, on_takes, on_again, on_done, on_line, on_kept)
 
 -- ---- take
 
-module _ (s : Bytes) (at ends f : List ℕ) (p q g : ℕ) (same : Bool) (held : Held) (i : Takes s at ends f p q g same held) where
-  pub take_alike : If same (key_of_run s at ends p ≡ key_at s q g)
-  take_alike = i.alike
-
-  pub take_key : Filled s q g
-  take_key = i.key
-
-  pub take_filled : Filled s (get_or at p 0) (get_or ends p 0)
-  take_filled = i.filled
-
-  pub take_inside : HeldAt s held
-  take_inside = i.inside
-
-  module _ (a : Said) (u : Says s (get_or at p 0) (get_or ends p 0) (key_at s q g) a) where
-    pub take_none : a ≡ said.Nothing → Taken s at at ends f f p q g held held
-    take_none e = record {
-      place = get_or at p 0;
-      moved = sym (set-get_or at p 0);
-      stands = i.filled.stands;
-      gone = rw e at u.gone;
-      fronts = record {
-        front = get_or f p 0;
-        is = i.front;
-        settled = record { blocks = i.blocks; same_long = refl; here = refl; others = λ j h d. refl };
-      };
-      holds = record { fits = i.inside.fits; is = rw (u.change, e) (sym (none_merge strings (held_in s s held))) };
-    }
-
-    module _ (b : Act) (x : ℕ) (e : a ≡ said.Change b x) where
+module _ (s : Bytes) (at ends f : List ℕ) (p q g : ℕ) (same : Bool) (held : Option Act) (i : Takes s at ends f p q g same held) where
+  module _ (a : Option (Act × ℕ)) (u : Says s (get_or at p 0) (get_or ends p 0) (key_at s q g) a) where
+    module _ (b : Act) (x : ℕ) (e : a ≡ Some (b, x)) where
       fits : ChangeFits s (get_or ends p 0) b x
       fits = rw e at u.fits
-
-      pub take_act : ActFits s s b
-      take_act = fits.act
-
-      pub take_next : Advances s at ends f p x
-      take_next = record { long = i.long; long_ends = i.long_ends; blocks = i.blocks; small = i.small; stands = fits.stands }
-
-      pub take_some : (at' : List ℕ) → at' ≡ set at p x → (f' : List ℕ) → Advanced s ends f f' p x →
-          (c : Held) → Holds s s (merge_at bytes (held_in s s held) (some (change_in s s b))) c → Taken s at at' ends f f' p q g held c
-      take_some at' z f' v c m = record {
-        place = x;
-        moved = z;
-        stands = fits.stands;
-        gone = rw e at u.gone;
-        fronts = v;
-        holds = record { fits = m.fits; is = rw (u.change, e) m.is };
-      }
-
-pub ruleset taking = (take_alike, take_key, take_filled, take_inside, take_none, take_act, take_next, take_some)
-
-pub ruleset gathering = (gather_start, gather_blocks, gather_room, gather_takes, gather_again, gather_done, gather_fronted)

@@ -7,8 +7,8 @@ use mathlib.Core.Bool.{Bool, true}
 use native.Mathlib.Omega.{arith}
 use native.Mathlib.Decide.{dec_le}
 use lib.ListN.{get_or}
-use Rattle.order.specs.declared.Ordering.{Ordering}
-use Rattle.order.specs.declared.Ordering.TheVariants.{Less, Equal, Greater}
+use Rattle.std.specs.declared.cmp.Ordering.{Ordering}
+use Rattle.std.specs.declared.cmp.Ordering.TheVariants.{Less, Equal, Greater}
 use Rattle.order.specs.Comparison.{bytes}
 use Rattle.order.specs.Map.{Item}
 use Rattle.order.specs.Many.{lower, lower_of, least}
@@ -16,13 +16,13 @@ use Rattle.change.specs.Change.{Change}
 use Rattle.number.specs.Bytes.{AllBytes}
 use Rattle.payload.specs.Content.{Bytes}
 use Rattle.cursors.specs.declared.least.Lower.{Lower}
-use Rattle.cursors.specs.declared.least.Found.TheVariants.{Nothing, At}
 use Rattle.cursors.specs.Cursor.{D, run, runs_n, runs, Stands, head_key, key_at, Filled}
 use Rattle.item.specs.Front.{front_key, top}
 use Rattle.cursors.specs.Front.{front_of, HeadBytes, Fronts, Sits, nowhere, on, Blocks, Finds, line, Looks, Pair, OneOf, left, right, key_of_run, Lowers, Alike, LeastBy, nowhere_left, stands_at}
 use Rattle.cursors.proofs.Standing.{runs_cons, runs_nil}
 use Rattle.item.proofs.Fronts.{front_less, front_greater}
-use Rattle.cursors.proofs.Eights.{all_under, all_sits}
+use Rattle.cursors.proofs.Lows.{all_under, all_sits}
+use Rattle.std.specs.Prelude.{None, Some}
 
 -- ---- one run
 
@@ -87,7 +87,7 @@ module _ (s : Bytes) (at ends : List ℕ) (from n : ℕ) (f : List ℕ) (low : �
       go [] q h ih = ih
       go (x ∷ d) q h ih = absurd (omega (arith, h.1, q, e, all_under f low (line w.fronted).blocks w.lowest r (omega (arith, w.within.few))))
 
-  pub least_none : low ≡ top → LeastBy s at ends from n f low Nothing
+  pub least_none : low ≡ top → LeastBy s at ends from n f low None
   least_none e = nowhere_left refl (go (dec_le from n))
     where
       go : Dec (from ≤ n) → least bytes (runs s at ends from n) ≡ none
@@ -252,8 +252,8 @@ module _ (s : Bytes) (at ends : List ℕ) (from n : ℕ) (f : List ℕ) (low fir
         one_low (left e) = rw e i.best_low
         one_low (right e) = rw e (t.found h)
 
-    pub least_done : n ≤ p → LeastBy s at ends from n f low (At (get_or at best 0) (get_or ends best 0) first last same)
-    least_done h = stands_at (get_or at best 0) (get_or ends best 0) first last same refl (record {
+    pub least_done : n ≤ p → LeastBy s at ends from n f low (Some (record { at = get_or at best 0; end = get_or ends best 0; first = first; last = last; same = same }))
+    least_done h = stands_at (record { at = get_or at best 0; end = get_or ends best 0; first = first; last = last; same = same }) refl (record {
       alike = i.alike;
       filled = filled best i.best_in.0 i.best_in.1 i.best_low;
       key = sym (rw (runs_nil s at ends n n (omega arith)) at (reach n (omega (arith, i.inside)) (omega arith) h));

@@ -1,8 +1,9 @@
 pub mod Standing
+pub mod Keeping
 pub mod Ranking
 pub mod Saying
 pub mod Fronting
-pub mod Eights
+pub mod Lows
 pub mod Lining
 pub mod Leasting
 pub mod Gathering

@@ -9,6 +9,8 @@ use Rattle.payload.specs.Content.{Bytes}
 use Rattle.cursors.specs.Cursor.{Stands, Within}
 use Rattle.item.specs.Front.{top}
 use Rattle.cursors.specs.Front.{Fronts, nowhere, Blocks, Settled, Fronted, lined, line}
+use Rattle.cursors.specs.declared.runs.Walk.{Walk}
+use Rattle.cursors.specs.Walk.{LinedUp}
 
 pub record Lining (s : Bytes) (at ends : List ℕ) (from n : ℕ) (f : List ℕ) (r : ℕ) : Type 0 where
   pub within : Within s at ends n
@@ -65,8 +67,8 @@ module _ (s : Bytes) (at ends : List ℕ) (from n : ℕ) (f : List ℕ) (r : ℕ
       each j a b (yes d) = rw (d, t.here) e
       each j a b (no d) = rw (t.others j (omega (arith, i.few)) d) ((line i.fronted).each j a (omega arith))
 
-  pub line_done : n ≤ r → Fronted s at ends from n f
-  line_done h = lined (record {
+  all_fronted : n ≤ r → Fronted s at ends from n f
+  all_fronted h = lined (record {
     blocks = (line i.fronted).blocks;
     each = λ j a b. (line i.fronted).each j a (omega arith);
     before = (line i.fronted).before;
@@ -78,5 +80,8 @@ module _ (s : Bytes) (at ends : List ℕ) (from n : ℕ) (f : List ℕ) (r : ℕ
       ]
     ];
   })
+
+  pub line_done : n ≤ r → (w : Walk) → w.store.now ≡ s → w.at ≡ at → w.ends ≡ ends → w.from ≡ from → w.n ≡ n → w.fronts.of ≡ f → LinedUp s at ends from n w
+  line_done h w a b c d e g = record { store = a; at = b; ends = c; from = d; n = e; fronted = rw g (all_fronted h) }
 
 pub ruleset lining = (line_start, line_blocks, line_stands, line_again, line_done)

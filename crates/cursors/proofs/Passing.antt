@@ -16,16 +16,18 @@ use Rattle.field.specs.Cells.{cell_bytes}
 use Rattle.payload.specs.Content.{Bytes}
 use Rattle.item.specs.Front.{front_key, top}
 use Rattle.item.proofs.Fronts.{front_less}
-use Rattle.item.specs.declared.reading.Reading.TheVariants.{Changes}
-use Rattle.item.specs.Reading.{Ready}
 use Rattle.turn.specs.declared.stretch.Stretch.{Stretch}
 use Rattle.turn.specs.Stretch.{Stretches}
 use Rattle.walk.proofs.Walking.{walk_left_first, walk_right_first}
 use Rattle.cursors.specs.Cursor.{D, run, runs_n, runs, items_in, Stands, Walks}
 use Rattle.cursors.specs.Front.{front_of, HeadBytes, Fronts, Lowest, Blocks, Finds, Settled, Fronted, lined, line, Advances, Advanced}
 use Rattle.cursors.specs.Lone.{Sought, sought, Leads, LoneIs, passes}
-use Rattle.cursors.proofs.Standing.{part_take, stands_long}
-use Rattle.cursors.proofs.Eights.{all_under}
+use Rattle.cursors.specs.declared.runs.Walk.{Walk}
+use Rattle.cursors.specs.declared.lone.Lone.{Lone}
+use Rattle.cursors.specs.Walk.{Underway, Kept, Passed}
+use Rattle.cursors.proofs.Standing.{part_take}
+use Rattle.cursors.proofs.Keeping.{kept_self}
+use Rattle.cursors.proofs.Lows.{all_under}
 
 abbrev I : Type 0
 I = Item Bytes (Change Bytes)
@@ -120,17 +122,6 @@ module _ (s : Bytes) (at at' ends : List ℕ) (p : ℕ) (passed : D) where
         (ahead_runs (suc r) m (omega arith) (omega arith) (record { first = k.first; others = λ j x y d. k.others j (omega arith) (omega arith) d })))
   ]
 
--- ---- seek_run
-
-module _ (s : Bytes) (p e : ℕ) (i : Stands s p e) where
-  pub seek_ready : Ready Changes (take e s) p
-  seek_ready = i.ready
-
-  pub seek_done : (bound : ℕ) (r : Stretch) → Stretches (take e s) p bound r.to r.announced r.withdrawn → Sought s p e bound r
-  seek_done bound r k = sought k
-
-pub ruleset seeking_run = (stands_long, seek_ready, seek_done)
-
 -- ---- pass
 
 module _ (s : Bytes) (at ends : List ℕ) (from n : ℕ) (f : List ℕ) (p : ℕ) (i : Leads s at ends from n f p) where
@@ -190,7 +181,7 @@ module _ (s : Bytes) (at ends : List ℕ) (from n : ℕ) (f : List ℕ) (p : ℕ
       each j z (yes d) = rw (d, here_at) on_stands
       each j z (no d) = rw (other_at j d) (i.walks.within.each j z)
 
-      pub lead_lone : LoneIs s at at' ends from n (record { from = get_or at p 0; to = to; announced = r.announced; withdrawn = r.withdrawn })
+      lead_lone : LoneIs s at at' ends from n (record { from = get_or at p 0; to = to; announced = r.announced; withdrawn = r.withdrawn })
       lead_lone = passes k.passed (record {
         walks = record {
           within = record { few = i.walks.within.few; long = rw e (length-set at p to ∙ lead_long); long_ends = lead_long_ends; each = λ j z. each j z (ℕ_discrete j p) };
@@ -207,7 +198,7 @@ module _ (s : Bytes) (at ends : List ℕ) (from n : ℕ) (f : List ℕ) (p : ℕ
         number = k.number;
       })
 
-      pub lead_fronted : (f₂ : List ℕ) → Advanced s ends f₁ f₂ p to → Fronted s at' ends from n f₂
+      lead_fronted : (f₂ : List ℕ) → Advanced s ends f₁ f₂ p to → Fronted s at' ends from n f₂
       lead_fronted f₂ v = lined (record {
         blocks = v.settled.blocks;
         each = λ j x y. front j x y (ℕ_discrete j p);
@@ -222,24 +213,43 @@ module _ (s : Bytes) (at ends : List ℕ) (from n : ℕ) (f : List ℕ) (p : ℕ
           front j x y (yes d) = rw (d, here_at, v.settled.here) v.is
           front j x y (no d) = rw (other_at j d, stays j (omega (arith, i.walks.within.few)) d) ((line i.fronted).each j x y)
 
-pub ruleset passing = (lead_blocks, lead_few, lead_long, lead_long_ends, lead_stands, lead_advances, lead_lone, lead_fronted)
+-- the walk behind it
+module _ (w : Walk) (p : ℕ) (i : Leads w.store.now w.at w.ends w.from w.n w.fronts.of p) (f₁ : List ℕ) (t : Settled w.fronts.of f₁ p top)
+    (bound : ℕ) (l : Lowest f₁ 64 72 bound) (r : Stretch) (g : Sought w.store.now (get_or w.at p 0) (get_or w.ends p 0) bound r)
+    (w' : Walk) (e : w'.at ≡ set w.at p r.to) (k : Kept (record w { fronts = record { of = f₁ } }) w') where
+  pub lead_kept : Kept w w'
+  lead_kept = record { store = k.store; ends = k.ends; from = k.from; n = k.n }
+
+  pub lead_passed : Passed w w' (record { from = get_or w.at p 0; to = r.to; announced = r.announced; withdrawn = r.withdrawn })
+  lead_passed = lead_lone w.store.now w.at w.ends w.from w.n w.fronts.of p i f₁ t bound l r g w'.at e
+
+  pub lead_going : Advanced w.store.now w.ends f₁ w'.fronts.of p r.to → Underway w'
+  lead_going v = record { walks = rw (k.store, k.ends, k.from, k.n) (go lead_passed); fronted = rw (k.store, k.ends, k.from, k.n) fronted }
+    where
+      go : {r : Lone} → Passed w w' r → Walks w.store.now w'.at w.ends w.from w.n
+      go (passes d q) = q.walks
+
+      fronted : Fronted w.store.now w'.at w.ends w.from w.n w'.fronts.of
+      fronted = lead_fronted w.store.now w.at w.ends w.from w.n w.fronts.of p i f₁ t bound l r g w'.at e w'.fronts.of v
+
+pub ruleset passing = (lead_blocks, lead_few, lead_long, lead_long_ends, lead_stands, lead_advances, lead_kept, lead_passed, lead_going)
 
 -- ---- pass_lone
 
-module _ (s : Bytes) (at ends : List ℕ) (from n : ℕ) (f : List ℕ) (w : Walks s at ends from n) (u : Fronted s at ends from n f) where
-  pub lone_blocks : Blocks f
-  lone_blocks = (line u).blocks
+module _ (w : Walk) (u : Underway w) where
+  pub lone_blocks : Blocks w.fronts.of
+  lone_blocks = (line u.fronted).blocks
 
-  pub lone_long : length f ≡ 72
-  lone_long = (line u).blocks.long
+  pub lone_long : length w.fronts.of ≡ 72
+  lone_long = (line u.fronted).blocks.long
 
-  pub lone_few : n ≤ 64
-  lone_few = w.within.few
+  pub lone_few : w.n ≤ 64
+  lone_few = u.walks.within.few
 
-  pub lone_none : LoneIs s at at ends from n (record { from = 0; to = 0; announced = 0; withdrawn = 0 })
+  pub lone_none : Passed w w (record { from = 0; to = 0; announced = 0; withdrawn = 0 })
   unfolding cell_bytes
   lone_none = passes [] (record {
-    walks = w;
+    walks = u.walks;
     is = refl;
     fewer = omega arith;
     lies = refl;
@@ -251,7 +261,10 @@ module _ (s : Bytes) (at ends : List ℕ) (from n : ℕ) (f : List ℕ) (w : Wal
     number = refl;
   })
 
-  pub lone_leads : (low p : ℕ) → Finds f low from n p → p < n → Leads s at ends from n f p
-  lone_leads low p t h = record { walks = w; fronted = u; ahead = t.ahead; inside = h }
+  pub lone_kept : Kept w w
+  lone_kept = kept_self w
 
-pub ruleset lone_passing = (lone_blocks, lone_long, lone_few, lone_none, lone_leads)
+  pub lone_leads : (low p : ℕ) → Finds w.fronts.of low w.from w.n p → p < w.n → Leads w.store.now w.at w.ends w.from w.n w.fronts.of p
+  lone_leads low p t h = record { walks = u.walks; fronted = u.fronted; ahead = t.ahead; inside = h }
+
+pub ruleset lone_passing = (lone_blocks, lone_long, lone_few, lone_none, lone_kept, lone_leads)

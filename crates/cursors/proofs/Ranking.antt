@@ -5,8 +5,8 @@ use mathlib.Core.List.{List}
 use mathlib.Core.Bool.{Bool, true, false, false≢true}
 use lib.ListN.{length, get_or, take}
 use lib.Seq.{length-take-le}
-use Rattle.order.specs.declared.Ordering.{Ordering}
-use Rattle.order.specs.declared.Ordering.TheVariants.{Less, Equal, Greater}
+use Rattle.std.specs.declared.cmp.Ordering.{Ordering}
+use Rattle.std.specs.declared.cmp.Ordering.TheVariants.{Less, Equal, Greater}
 use Rattle.order.specs.Comparison.{bytes}
 use Rattle.order.proofs.Comparison.{strings}
 use Rattle.field.specs.Places.{key_in}
@@ -14,13 +14,12 @@ use Rattle.field.specs.If.{If}
 use Rattle.payload.specs.Content.{Bytes}
 use Rattle.item.specs.declared.place.Entry.{Entry}
 use Rattle.item.specs.declared.reading.Reading.TheVariants.{Changes}
-use Rattle.item.specs.declared.reading.Read.{Read}
-use Rattle.item.specs.declared.reading.Read.TheVariants.{End, One}
 use Rattle.item.specs.Reading.{Ready}
 use Rattle.walk.specs.Origins.{origin_of, BothAt}
 use Rattle.cursors.specs.Cursor.{run, Stands, Heads, head_key, key_at, Filled}
 use Rattle.cursors.specs.Front.{Pair, left, right, key_of_run, Lowers}
 use Rattle.cursors.proofs.Standing.{head_end, head_is_lem}
+use Rattle.std.specs.Prelude.{None, Option, Some}
 
 -- ---- rank_items
 
@@ -28,17 +27,17 @@ module _ (s : Bytes) (p e : ℕ) (i : Filled s p e) where
   pub filled_stands : Stands s p e
   filled_stands = i.stands
 
-  module _ (r : Read) (h : Heads s p e r) (q : r ≡ End) where
+  module _ (r : Option Entry) (h : Heads s p e r) (q : r ≡ None) where
     pub rank_left : (k : Bytes) → Less ≡ bytes (key_at s p e) k
     rank_left k = absurd (i.some (head_end s p e r h q))
 
     pub rank_right : (k : Bytes) → Less ≡ bytes k (key_at s p e)
     rank_right k = absurd (i.some (head_end s p e r h q))
 
-pub head_key_lem : (s : Bytes) (p e : ℕ) (r : Read) → Heads s p e r → (x : Entry) → r ≡ One x → key_at s p e ≡ key_in s x.key
+pub head_key_lem : (s : Bytes) (p e : ℕ) (r : Option Entry) → Heads s p e r → (x : Entry) → r ≡ Some x → key_at s p e ≡ key_in s x.key
 head_key_lem s p e r h x q = ap head_key (head_is_lem s p e r h x q)
 
-pub rank_both : (s : Bytes) (p e : ℕ) (r : Read) → Heads s p e r → (x : Entry) → r ≡ One x → (q g : ℕ) (t : Read) → Heads s q g t → (y : Entry) → t ≡ One y →
+pub rank_both : (s : Bytes) (p e : ℕ) (r : Option Entry) → Heads s p e r → (x : Entry) → r ≡ Some x → (q g : ℕ) (t : Option Entry) → Heads s q g t → (y : Entry) → t ≡ Some y →
     (o : Ordering) → o ≡ bytes (key_in s x.key) (key_in s y.key) → o ≡ bytes (key_at s p e) (key_at s q g)
 rank_both s p e r h x a q g t k y b o c = rw (head_key_lem s p e r h x a, head_key_lem s q g t k y b) c
 

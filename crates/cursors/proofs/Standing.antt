@@ -15,12 +15,11 @@ use Rattle.item.specs.declared.place.Act.{Act}
 use Rattle.item.specs.declared.place.Act.TheVariants.{Announce, Withdraw, Update}
 use Rattle.item.specs.declared.place.Entry.{Entry}
 use Rattle.item.specs.declared.reading.Reading.TheVariants.{Changes}
-use Rattle.item.specs.declared.reading.Read.{Read}
-use Rattle.item.specs.declared.reading.Read.TheVariants.{End, One}
 use Rattle.item.specs.Place.{part_in, change_in, item_in, PartFits, ActFits, KeyIn}
 use Rattle.item.specs.Reading.{Reads}
 use Rattle.item.proofs.Places.{drop_take}
 use Rattle.cursors.specs.Cursor.{run, runs_n, Stands, EntryFits, Heads}
+use Rattle.std.specs.Prelude.{None, Option, Some}
 
 module _ (s : Bytes) (e : ℕ) where
   -- a part that ends at or before e
@@ -67,10 +66,10 @@ module _ (s : Bytes) (p e : ℕ) (st : Stands s p e) where
   pub stands_long : length (take e s) ≡ e
   stands_long = length-take-le e s st.within
 
-  pub heads_of_lem : (r : Read) → Reads Changes (take e s) p r → Heads s p e r
+  pub heads_of_lem : (r : Option Entry) → Reads Changes (take e s) p r → Heads s p e r
   unfolding run
-  heads_of_lem End h = record { fits = tt; is = h.is }
-  heads_of_lem (One x) h =
+  heads_of_lem None h = record { fits = tt; is = h.is }
+  heads_of_lem (Some x) h =
       let f = h.fits in
       record {
         fits = record { key = key_fits s e x.key f.key; act = act_fits s e x.act f.act; stands = record { ready = f.ready; within = st.within } };
@@ -81,11 +80,11 @@ pub ruleset heading = (stands_long, heads_of_lem)
 
 -- ---- what a cursor stands at
 
-module _ (s : Bytes) (p e : ℕ) (r : Read) (h : Heads s p e r) where
-  pub head_end : r ≡ End → run s p e ≡ []
+module _ (s : Bytes) (p e : ℕ) (r : Option Entry) (h : Heads s p e r) where
+  pub head_end : r ≡ None → run s p e ≡ []
   head_end q = rw q at h.is
 
-  module _ (x : Entry) (q : r ≡ One x) where
+  module _ (x : Entry) (q : r ≡ Some x) where
     pub head_is_lem : run s p e ≡ item_in s s x.key x.act ∷ run s x.next e
     head_is_lem = rw q at h.is
 

@@ -1,5 +1,5 @@
 -- The walk over many runs of the delta store at once: a cursor stands in each run, and each run has its end.
-use Rattle.std.specs.Prelude.{ℕ, zero, suc, ◌+◌, ◌-◌, ◌≤◌, ◌<◌, ◌≡◌, cond, eqb, length, get_or, take, drop}
+use Rattle.std.specs.Prelude.{ℕ, zero, suc, ◌+◌, ◌-◌, ◌≤◌, ◌<◌, ◌≡◌, cond, eqb, length, get_or, take, drop, None, Some}
 use mathlib.Core.List.{List, [], ◌∷◌, map, foldl}
 use Rattle.std.proofs.Math.Option.{Option, none, some}
 use Rattle.order.specs.Comparison.{bytes}
@@ -16,17 +16,11 @@ use Rattle.payload.specs.Payload.{changes}
 use Rattle.payload.specs.Limit.{limit}
 use Rattle.item.specs.declared.place.Act.{Act}
 use Rattle.item.specs.declared.place.Act.TheVariants.{Announce, Withdraw}
-use Rattle.item.specs.declared.place.Held.{Held}
 use Rattle.item.specs.declared.place.Entry.{Entry}
 use Rattle.item.specs.declared.reading.Reading.TheVariants.{Changes}
-use Rattle.item.specs.declared.reading.Read.{Read}
-use Rattle.item.specs.declared.reading.Read.TheVariants as read
 use Rattle.item.specs.Place.{item_in, change_in, HeldFits, ActFits, KeyIn, Holds}
 use Rattle.item.specs.Reading.{Ready}
-use Rattle.cursors.specs.declared.said.Said.{Said}
-use Rattle.cursors.specs.declared.said.Said.TheVariants as said
-use Rattle.cursors.specs.declared.next.Step.{Step}
-use Rattle.cursors.specs.declared.next.Step.TheVariants as step
+use Rattle.std.specs.Prelude as opt
 
 abbrev pub D : Type 0
 D = change.Delta Bytes Bytes
@@ -85,16 +79,16 @@ pub record EntryFits (s : Bytes) (e : ℕ) (x : Entry) : Type 0 where
   pub act : ActFits s s x.act
   pub stands : Stands s x.next e
 
-abbrev pub HeadFits : Bytes → ℕ → Read → Type 0
-HeadFits s e read.End = Unit {0}
-HeadFits s e (read.One x) = EntryFits s e x
+abbrev pub HeadFits : Bytes → ℕ → opt.Option Entry → Type 0
+HeadFits s e None = Unit {0}
+HeadFits s e (Some x) = EntryFits s e x
 
-abbrev pub head_is : Bytes → ℕ → Read → D
-head_is s e read.End = []
-head_is s e (read.One x) = item_in s s x.key x.act ∷ run s x.next e
+abbrev pub head_is : Bytes → ℕ → opt.Option Entry → D
+head_is s e None = []
+head_is s e (Some x) = item_in s s x.key x.act ∷ run s x.next e
 
 -- the run from p up to e by its first item
-pub record Heads (s : Bytes) (p e : ℕ) (r : Read) : Type 0 where
+pub record Heads (s : Bytes) (p e : ℕ) (r : opt.Option Entry) : Type 0 where
   pub fits : HeadFits s e r
   pub is : run s p e ≡ head_is s e r
 
@@ -115,7 +109,7 @@ pub record Filled (s : Bytes) (p e : ℕ) : Type 0 where
 
 -- ---- the changes at a key
 
-pub record HeldAt (s : Bytes) (h : Held) : Type 0 where
+pub record HeldAt (s : Bytes) (h : opt.Option Act) : Type 0 where
   pub fits : HeldFits s s h
 
 -- a change of the store, and a place where its run goes on
@@ -123,30 +117,30 @@ pub record ChangeFits (s : Bytes) (e : ℕ) (a : Act) (next : ℕ) : Type 0 wher
   pub act : ActFits s s a
   pub stands : Stands s next e
 
-abbrev pub SaidFits : Bytes → ℕ → Said → Type 0
-SaidFits s e said.Nothing = Unit {0}
-SaidFits s e (said.Change a next) = ChangeFits s e a next
+abbrev pub SaidFits : Bytes → ℕ → opt.Option (Act × ℕ) → Type 0
+SaidFits s e None = Unit {0}
+SaidFits s e (Some (a, next)) = ChangeFits s e a next
 
-abbrev pub change_said : Bytes → Said → Option (Change Bytes)
-change_said s said.Nothing = none
-change_said s (said.Change a next) = some (change_in s s a)
+abbrev pub change_said : Bytes → opt.Option (Act × ℕ) → Option (Change Bytes)
+change_said s None = none
+change_said s (Some (a, next)) = some (change_in s s a)
 
-abbrev pub behind : ℕ → Said → ℕ
-behind p said.Nothing = p
-behind p (said.Change a next) = next
+abbrev pub behind : ℕ → opt.Option (Act × ℕ) → ℕ
+behind p None = p
+behind p (Some (a, next)) = next
 
 -- the change of an origin with this tag, whose field ends at `to`
 abbrev pub origin_act : ℕ → ℕ → Act
 origin_act tag to = cond (eqb tag 0x11) (Announce (record { from = to; to = to })) (Withdraw (record { from = to; to = to }))
 
 -- one run: its change at k, if it has one, and the run past k
-pub record Says (s : Bytes) (p e : ℕ) (k : Bytes) (r : Said) : Type 0 where
+pub record Says (s : Bytes) (p e : ℕ) (k : Bytes) (r : opt.Option (Act × ℕ)) : Type 0 where
   pub fits : SaidFits s e r
   pub change : first bytes k (run s p e) ≡ change_said s r
   pub gone : run s (behind p r) e ≡ past bytes k (run s p e)
 
 -- all runs: their changes at k, merged, and the runs past it
-pub record Gathered (s : Bytes) (at₀ at ends : List ℕ) (from n : ℕ) (k : Bytes) (r : Held) : Type 0 where
+pub record Gathered (s : Bytes) (at₀ at ends : List ℕ) (from n : ℕ) (k : Bytes) (r : opt.Option Act) : Type 0 where
   pub holds : Holds s s (foldl (merge_at bytes) none (map (first bytes k) (runs s at₀ ends from n))) r
   pub within : Within s at ends n
   pub gone : runs s at ends from n ≡ map (past bytes k) (runs s at₀ ends from n)
@@ -159,19 +153,19 @@ pub record ItemFits (s : Bytes) (k : Key) (a : Act) : Type 0 where
   pub act : ActFits s s a
 
 -- a change at the first key of the run from p up to e
-pub data Made (s : Bytes) (p e : ℕ) (a : Act) (r : Step) : Type 0 where
-  made : (k : Key) → KeyIn s k → key_in s k ≡ key_at s p e → r ≡ step.Item k a → Made s p e a r
+pub data Made (s : Bytes) (p e : ℕ) (a : Act) (r : opt.Option (Key × Act)) : Type 0 where
+  made : (k : Key) → KeyIn s k → key_in s k ≡ key_at s p e → r ≡ Some (k, a) → Made s p e a r
 
-abbrev pub yields : Bytes → Step → D → D
-yields s step.End d = []
-yields s (step.Item key act) d = item_in s s key act ∷ d
+abbrev pub yields : Bytes → opt.Option (Key × Act) → D → D
+yields s None d = []
+yields s (Some (key, act)) d = item_in s s key act ∷ d
 
-abbrev pub NextFits : Bytes → ℕ → ℕ → Step → Type 0
-NextFits s before after step.End = Unit {0}
-NextFits s before after (step.Item key act) = ItemFits s key act × (after < before)
+abbrev pub NextFits : Bytes → ℕ → ℕ → opt.Option (Key × Act) → Type 0
+NextFits s before after None = Unit {0}
+NextFits s before after (Some (key, act)) = ItemFits s key act × (after < before)
 
 -- what was left is this item and what is left now; with an item, fewer are left in the runs
-pub record NextIs (s : Bytes) (at₀ at ends : List ℕ) (from n : ℕ) (r : Step) : Type 0 where
+pub record NextIs (s : Bytes) (at₀ at ends : List ℕ) (from n : ℕ) (r : opt.Option (Key × Act)) : Type 0 where
   pub walks : Walks s at ends from n
   pub fits : NextFits s (items_left s at₀ ends from n) (items_left s at ends from n) r
   pub is : left_of s at₀ ends from n ≡ yields s r (left_of s at ends from n)

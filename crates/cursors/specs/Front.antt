@@ -1,5 +1,5 @@
 -- The front of a run: the first eight bytes of its first key as one number; and 64 fronts with the lowest of each eight.
-use Rattle.std.specs.Prelude.{ℕ, ◌+◌, ◌*◌, ◌≤◌, ◌<◌, ◌≡◌, List, [], ◌∷◌, Bool, true, length, get_or, set}
+use Rattle.std.specs.Prelude.{ℕ, ◌+◌, ◌*◌, ◌≤◌, ◌<◌, ◌≡◌, List, [], ◌∷◌, Bool, true, length, get_or, set, Option, None, Some}
 use Rattle.std.proofs.Math.Option.{none, some}
 use Rattle.order.specs.Comparison.{bytes}
 use Rattle.order.specs.Many.{lower_of, least, first, past}
@@ -7,13 +7,12 @@ use Rattle.change.specs.Merge.{merge_at}
 use Rattle.number.specs.Bytes.{AllBytes}
 use Rattle.field.specs.If.{If}
 use Rattle.payload.specs.Content.{Bytes}
-use Rattle.item.specs.declared.place.Held.{Held}
 use Rattle.item.specs.Front.{front_key, top}
 use Rattle.item.specs.Place.{held_in, Holds}
 use Rattle.cursors.specs.declared.least.Lower.{Lower}
-use Rattle.cursors.specs.declared.least.Found.{Found}
-use Rattle.cursors.specs.declared.least.Found.TheVariants as found
 use Rattle.cursors.specs.Cursor.{D, run, runs, Stands, Within, key_at, Filled, HeldAt}
+use Rattle.item.specs.declared.place.Act.{Act}
+use Rattle.cursors.specs.declared.least.Lead.{Lead}
 
 -- ---- one front
 
@@ -131,9 +130,9 @@ pub record LeastIs (s : Bytes) (at ends : List ℕ) (from n : ℕ) (f : List ℕ
   pub tied : Tied f low from n first last
 
 -- what was found, closed: a search does not look into it
-pub data LeastBy (s : Bytes) (at ends : List ℕ) (from n : ℕ) (f : List ℕ) (low : ℕ) (r : Found) : Type 0 where
-  nowhere_left : r ≡ found.Nothing → least bytes (runs s at ends from n) ≡ none → LeastBy s at ends from n f low r
-  stands_at : (p e first last : ℕ) (same : Bool) → r ≡ found.At p e first last same → LeastIs s at ends from n f low p e first last same → LeastBy s at ends from n f low r
+pub data LeastBy (s : Bytes) (at ends : List ℕ) (from n : ℕ) (f : List ℕ) (low : ℕ) (r : Option Lead) : Type 0 where
+  nowhere_left : r ≡ None → least bytes (runs s at ends from n) ≡ none → LeastBy s at ends from n f low r
+  stands_at : (l : Lead) → r ≡ Some l → LeastIs s at ends from n f low l.at l.end l.first l.last l.same → LeastBy s at ends from n f low r
 
 -- what the gathering at the first key of the run from q up to g may assume
 pub record Meets (s : Bytes) (at ends : List ℕ) (from n : ℕ) (f : List ℕ) (low first last q g : ℕ) (same : Bool) : Type 0 where
@@ -159,7 +158,7 @@ pub record Advanced (s : Bytes) (ends f₀ f : List ℕ) (p next : ℕ) : Type 0
   pub settled : Settled f₀ f p front
 
 -- what run p says of the first key of the run from q up to g is taken
-pub record Takes (s : Bytes) (at ends f : List ℕ) (p q g : ℕ) (same : Bool) (held : Held) : Type 0 where
+pub record Takes (s : Bytes) (at ends f : List ℕ) (p q g : ℕ) (same : Bool) (held : Option Act) : Type 0 where
   pub alike : If same (key_of_run s at ends p ≡ key_at s q g)
   pub key : Filled s q g
   pub long : length at ≡ 64
@@ -170,7 +169,7 @@ pub record Takes (s : Bytes) (at ends f : List ℕ) (p q g : ℕ) (same : Bool) 
   pub front : Fronts s (get_or at p 0) (get_or ends p 0) (get_or f p 0)
   pub inside : HeldAt s held
 
-pub record Taken (s : Bytes) (at₀ at ends f₀ f : List ℕ) (p q g : ℕ) (held r : Held) : Type 0 where
+pub record Taken (s : Bytes) (at₀ at ends f₀ f : List ℕ) (p q g : ℕ) (held r : Option Act) : Type 0 where
   pub place : ℕ
   pub moved : at ≡ set at₀ p place
   pub stands : Stands s place (get_or ends p 0)

@@ -2,3 +2,4 @@
 pub mod Cursor
 pub mod Front
 pub mod Lone
+pub mod Walk

@@ -11,15 +11,7 @@ ghost use Rattle.cursors.specs.Front.{Fronts};
 use crate::cursor::item_at;
 use field::key::Key;
 use item::front::front_in;
-use item::reading::Read;
 use number::word_at;
-
-// A byte as a wider number.
-pub(crate) fn broad(x: u8) -> u64
-    ensures { (result ≡ x) × (result < 256) }
-{
-    x as u64
-}
 
 // The byte at i; 0 from `to` on.
 fn digit(s: &[u8], i: usize, to: usize) -> u64
@@ -27,7 +19,7 @@ fn digit(s: &[u8], i: usize, to: usize) -> u64
     ensures { (result ≡ get_or (part s.now i to) 0 0) × (result < 256) }
 {
     if i < to {
-        return broad(s[i]);
+        return u64::from(s[i]);
     }
     0
 }
@@ -37,16 +29,11 @@ fn front_of(s: &[u8], k: Key) -> u64
     requires { KeyIn s.now k }
     ensures { (result ≡ front_key (key_in s.now k)) × (result < 18446744073709551615) }
 {
-    let from = k.from;
-    let to = k.to;
-    let a = broad(k.kind);
-    let b = a * 256 + digit(s, from, to);
-    let c = b * 256 + digit(s, from + 1, to);
-    let d = c * 256 + digit(s, from + 2, to);
-    let e = d * 256 + digit(s, from + 3, to);
-    let f = e * 256 + digit(s, from + 4, to);
-    let g = f * 256 + digit(s, from + 5, to);
-    g * 256 + digit(s, from + 6, to)
+    let mut front = u64::from(k.kind);
+    for i in k.from..k.from + 7 {
+        front = front * 256 + digit(s, i, k.to);
+    }
+    front
 }
 
 // The front of the run from p up to e, by the item at p; at its end one above all others.
@@ -54,8 +41,8 @@ fn front_by_item(store: &[u8], p: usize, e: usize) -> u64
     requires { Stands store.now p e }
     ensures { Fronts store.now p e result }
 {
-    let Read::One(x) = item_at(store, p, e) else {
-        return 18446744073709551615;
+    let Some(x) = item_at(store, p, e) else {
+        return u64::MAX;
     };
     let key = x.key;
     front_of(store, key)

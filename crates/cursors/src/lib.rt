@@ -2,12 +2,12 @@
 #![tactic(auto)]
 
 pub mod cursor;
+pub mod eights;
 pub mod front;
-pub mod fronts;
 pub mod gather;
 pub mod least;
 pub mod lone;
-pub mod lows;
 pub mod next;
 pub mod rank;
+pub mod runs;
 pub mod said;

@@ -5,8 +5,7 @@ ghost use Rattle.cursors.specs.Cursor.{Filled, key_at};
 
 use crate::cursor::item_at;
 use field::key::key_compare;
-use item::reading::Read;
-use order::Ordering;
+use std::cmp::Ordering;
 use walk::origins::{both_at, origin_compare};
 
 // By the items.
@@ -14,11 +13,11 @@ fn rank_items(store: &[u8], p: usize, e: usize, q: usize, g: usize) -> Ordering
     requires { Filled store.now p e × Filled store.now q g }
     ensures { result ≡ bytes (key_at store.now p e) (key_at store.now q g) }
 {
-    let Read::One(x) = item_at(store, p, e) else {
+    let Some(x) = item_at(store, p, e) else {
         // Never: the run has an item.
         return Ordering::Less;
     };
-    let Read::One(y) = item_at(store, q, g) else {
+    let Some(y) = item_at(store, q, g) else {
         // Never.
         return Ordering::Less;
     };

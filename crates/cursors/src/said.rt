@@ -1,23 +1,14 @@
-// What one run says of a key.
+// What one run says of a key, if anything: its change there, and where the run goes on.
 ghost use Rattle.std.specs.Prelude.{◌≡◌, ◌+◌, get_or};
 ghost use Rattle.field.specs.If.{If};
 ghost use Rattle.walk.specs.Origins.{OriginAt};
-ghost use Rattle.cursors.specs.declared.said.Said.TheVariants.{Change};
 ghost use Rattle.cursors.specs.Cursor.{Filled, key_at, origin_act, Says};
 
 use crate::cursor::item_at;
 use crate::rank::rank;
 use item::place::{Act, Part};
-use item::reading::Read;
-use order::Ordering;
+use std::cmp::Ordering;
 use walk::origins::origin_at;
-
-// What a run says of a key: its change there, and where the run goes on.
-#[derive(Clone, Copy)]
-pub enum Said {
-    Nothing,
-    Change(Act, usize),
-}
 
 // The change of an origin with this tag, whose field ends at `to`: it has no value.
 fn origin_act(tag: u8, to: usize) -> Act
@@ -31,32 +22,38 @@ fn origin_act(tag: u8, to: usize) -> Act
 }
 
 // What the origin at a place of a delta says of its key.
-fn said_origin(s: &[u8], at: usize) -> Said
+fn said_origin(s: &[u8], at: usize) -> (Act, usize)
     requires { OriginAt s.now at }
-    ensures { result ≡ Change (origin_act (get_or s.now at 0) (at + 26)) (at + 26) }
+    ensures { result ≡ (origin_act (get_or s.now at 0) (at + 26), at + 26) }
 {
     let next = at + 26;
-    Said::Change(origin_act(s[at], next), next)
+    (origin_act(s[at], next), next)
 }
 
 // What the run from p up to e says of its first key.
-fn said_first(store: &[u8], p: usize, e: usize) -> Said
+fn said_first(store: &[u8], p: usize, e: usize) -> Option<(Act, usize)>
     requires { Filled store.now p e }
     ensures { Says store.now p e (key_at store.now p e) result }
 {
     if origin_at(&store[..e], p) {
-        return said_origin(&store[..e], p);
+        return Some(said_origin(&store[..e], p));
     }
-    let Read::One(x) = item_at(store, p, e) else {
-        return Said::Nothing;
+    let Some(x) = item_at(store, p, e) else {
+        return None;
     };
-    let act = x.act;
-    Said::Change(act, x.next)
+    Some((x.act, x.next))
 }
 
 // What the run from p up to e says of the first key of the run from q up to g; if it is known to be the same as its own,
 // nothing is compared.
-pub(crate) fn ask(store: &[u8], p: usize, e: usize, q: usize, g: usize, same: bool) -> Said
+pub(crate) fn ask(
+    store: &[u8],
+    p: usize,
+    e: usize,
+    q: usize,
+    g: usize,
+    same: bool,
+) -> Option<(Act, usize)>
     requires { Filled store.now p e × (Filled store.now q g × If same (key_at store.now p e ≡ key_at store.now q g)) }
     ensures { Says store.now p e (key_at store.now q g) result }
 {
@@ -64,8 +61,7 @@ pub(crate) fn ask(store: &[u8], p: usize, e: usize, q: usize, g: usize, same: bo
         return said_first(store, p, e);
     }
     match rank(store, q, g, p, e) {
-        Ordering::Less => Said::Nothing,
-        Ordering::Greater => Said::Nothing,
         Ordering::Equal => said_first(store, p, e),
+        Ordering::Less | Ordering::Greater => None,
     }
 }

@@ -17,7 +17,6 @@ use Rattle.change.proofs.Balance as maps
 use Rattle.body.specs.declared.tag.Form.{Form}
 use Rattle.body.specs.declared.tag.Form.TheVariants.{Snapshot, Delta}
 use Rattle.body.specs.Tag.{tag_of, kind_of}
-use Rattle.field.specs.declared.verdict.Verdict.TheVariants.{Fine}
 use Rattle.field.specs.Key.{key_of}
 use Rattle.field.specs.Verdict.{verdict}
 use Rattle.field.specs.Cells.{Cell, cells}
@@ -33,6 +32,7 @@ use Rattle.delta.specs.Demand.{GoodSnapshot}
 use Rattle.delta.specs.Shortest.{LeadsTo, tagged, Balance}
 use Rattle.delta.proofs.Differences.{good_map}
 use Rattle.delta.proofs.Leading.{leads_after, leads_fine, leads_map}
+use Rattle.std.specs.Prelude.{Ok}
 
 -- a good field has the tag of what it says
 tag_known : (form : Form) (tag : ℕ) (b : Bytes) → Known form tag → (cell_for form (entry_of form (record { tag = tag; body = b }))).tag ≡ tag
@@ -55,7 +55,7 @@ tags_run form test (more {s = s} tag b rest f g z l r) =
     rw (entries_more form s tag b rest f, cells_more s tag b rest f)
     (ap₂ (λ (m n : ℕ). m + n) (ap (λ (t : ℕ). cond (test t) 1 0) (sym (tag_known form tag b (known.known form tag b g)))) (tags_run form test r))
 
-tags_of : (form : Form) (test : ℕ → Bool) (s : Bytes) → verdict form s ≡ Fine → count_tags test (cells s) ≡ count_tags test (map (cell_for form) (entries form s))
+tags_of : (form : Form) (test : ℕ → Bool) (s : Bytes) → verdict form s ≡ Ok tt → count_tags test (cells s) ≡ count_tags test (map (cell_for form) (entries form s))
 tags_of form test s e = tags_run form test (fine_run form s e)
 
 -- the tags of one kind, in a snapshot and in a delta
@@ -152,7 +152,7 @@ module _ (A C D : Bytes) (a : GoodSnapshot A) (l : LeadsTo A C D) where
       (maps.balance strings bytes (is_kind k) (items A) (changes D) (good_map A a).sorted (leads_map A C D a l).ascends (leads_map A C D a l).applies)
 
   -- of the kind k
-  even : verdict Snapshot C ≡ Fine → (k : ℕ) → tagged k C + tagged (k * 16 + 2) D ≡ tagged k A + tagged (k * 16 + 1) D
+  even : verdict Snapshot C ≡ Ok tt → (k : ℕ) → tagged k C + tagged (k * 16 + 2) D ≡ tagged k A + tagged (k * 16 + 1) D
   even c k =
       rw (
         tags_of Snapshot (eqb k) C c ∙ held_tags k (items C),

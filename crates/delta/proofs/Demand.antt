@@ -1,4 +1,5 @@
 -- Demand 3, first part: what the answers of the three entries come to for good snapshots A, B and C within their limit.
+use Rattle.delta.specs.Answer.{Constructed}
 use Prim.Native.Nat.{ℕ, ◌+◌, ◌≤◌}
 use mathlib.Core.Path.{◌≡◌, refl, sym, ap, ◌∙◌}
 use mathlib.Core.List.{[], ◌∷◌}
@@ -15,8 +16,6 @@ use Rattle.serial.specs.Serial.{next_of}
 use Rattle.number.specs.Bytes.{AllBytes}
 use Rattle.body.specs.declared.tag.Form.{Form}
 use Rattle.body.specs.declared.tag.Form.TheVariants.{Snapshot, Delta}
-use Rattle.field.specs.declared.verdict.Verdict.{Verdict}
-use Rattle.field.specs.declared.verdict.Verdict.TheVariants.{Fine, Bad, Senseless, NotAbove}
 use Rattle.field.specs.Verdict.{verdict}
 use Rattle.payload.specs.Content.{Bytes}
 use Rattle.payload.specs.Written.{written_over}
@@ -30,24 +29,23 @@ use Rattle.delta.specs.declared.refusal.Refusal.{Refusal}
 use Rattle.delta.specs.declared.refusal.Refusal.TheVariants.{NoRoom, TooLong}
 use Rattle.delta.specs.declared.refusal.Refusal.TheVariants as refusal
 use Rattle.item.specs.declared.sink.Counts.{Counts}
-use Rattle.delta.specs.declared.admit.Admitted.{Admitted}
-use Rattle.delta.specs.declared.admit.Admitted.TheVariants.{Yes, No}
-use Rattle.delta.specs.declared.construct.Constructed.TheVariants as constructed
-use Rattle.delta.specs.declared.merge.Merged.TheVariants as merged
-use Rattle.delta.specs.declared.apply.Applied.TheVariants as applied
 use Rattle.delta.specs.Refusal.{number_of}
 use Rattle.delta.specs.Admission.{verdict_admitted, and_then, admit_of}
 use Rattle.delta.specs.Answer.{difference_of, merged_of, applied_of, counts_of, out_after, construct_at, construct_of, construct_out, merge_of, merge_out, apply_admitted, apply_of, apply_out}
 use Rattle.delta.specs.Demand.{GoodSnapshot, Acceptable, Demand}
 use Rattle.delta.proofs.Answering.{admitted_inputs}
 use Rattle.delta.proofs.Differences.{good_map, difference_fine, difference_says, difference_fits, difference_yields, difference_empty, difference_self}
+use Rattle.delta.specs.Admission.{Admitted}
+use Rattle.std.specs.Prelude.{Err, Ok, None, Some}
+use Rattle.field.specs.declared.verdict.Flaw.TheVariants as flaw
+use Rattle.field.specs.Verdict.{Verdict}
 
 -- good bytes within their limits are admitted
-admitted : (f : Form) (a : Bytes) (g : Form) (b : Bytes) → length a ≤ limit f → length b ≤ limit g → verdict f a ≡ Fine → verdict g b ≡ Fine → admit_of f a g b ≡ Yes
+admitted : (f : Form) (a : Bytes) (g : Form) (b : Bytes) → length a ≤ limit f → length b ≤ limit g → verdict f a ≡ Ok tt → verdict g b ≡ Ok tt → admit_of f a g b ≡ Ok tt
 admitted f a g b h k x y = rw (le-leb (length a) (limit f) h, le-leb (length b) (limit g) k, x, y)
 
 -- an answer that fits, then the output as it was
-out_whole : (d o : Bytes) → length d ≤ length o → out_after Yes d o ≡ written_over d o
+out_whole : (d o : Bytes) → length d ≤ length o → out_after (Ok tt) d o ≡ written_over d o
 out_whole d o h = rw (le-leb (length d) (length o) h)
 
 pub no_bytes : (s : Bytes) → length s ≡ 0 → s ≡ []
@@ -56,10 +54,10 @@ no_bytes (x ∷ s) e = absurd (omega arith)
 
 -- "no change" is answered for an empty difference alone
 empty_of : (n room : ℕ) (s : Serial) (k : Counts) →
-    cond (eqb n 0) constructed.NoChange (cond (leb n room) (constructed.Delta s k) (constructed.Refused NoRoom)) ≡ constructed.NoChange → n ≡ 0
+    ◌≡◌ {A = Constructed} (cond (eqb n 0) (Ok None) (cond (leb n room) (Ok (Some (s, k))) (Err NoRoom))) (Ok None) → n ≡ 0
 empty_of n room s k = go (eqb n 0) refl (leb n room)
   where
-    go : (t : Bool) → eqb n 0 ≡ t → (w : Bool) → cond t constructed.NoChange (cond w (constructed.Delta s k) (constructed.Refused NoRoom)) ≡ constructed.NoChange → n ≡ 0
+    go : (t : Bool) → eqb n 0 ≡ t → (w : Bool) → ◌≡◌ {A = Constructed} (cond t (Ok None) (cond w (Ok (Some (s, k))) (Err NoRoom))) (Ok None) → n ≡ 0
     go true e w h = eqb-true n 0 e
     go false e true h = never cc
     go false e false h = never cc
@@ -79,23 +77,23 @@ module _ (A B : Bytes) (a : Acceptable A) (b : Acceptable B) where
   pub difference_short : length (difference_of A B) ≤ limit Delta
   difference_short = omega (arith, difference_length A B a.good b.good, a.short, b.short)
 
-  yes : admit_of Snapshot A Snapshot B ≡ Yes
+  yes : admit_of Snapshot A Snapshot B ≡ Ok tt
   yes = admitted Snapshot A Snapshot B a.short b.short a.good.fine b.good.fine
 
   -- construct answers "no change" exactly for equal snapshots, and then writes nothing
-  pub same_no_change : (serial : Serial) (room : ℕ) → A ≡ B → construct_of A B serial room ≡ constructed.NoChange
+  pub same_no_change : (serial : Serial) (room : ℕ) → A ≡ B → construct_of A B serial room ≡ Ok None
   unfolding construct_of
   same_no_change serial room e =
       let z : length (difference_of A B) ≡ 0 = ap (λ (s : Bytes). length (difference_of A s)) (sym e) ∙ ap length (difference_self A a.good) in
       rw (yes, eq-eqb (length (difference_of A B)) 0 z)
 
-  pub no_change_same : (serial : Serial) (room : ℕ) → construct_of A B serial room ≡ constructed.NoChange → A ≡ B
+  pub no_change_same : (serial : Serial) (room : ℕ) → construct_of A B serial room ≡ Ok None → A ≡ B
   unfolding construct_of
   no_change_same serial room h = difference_empty A B a.good b.good (no_bytes (difference_of A B) (empty_of (length (difference_of A B)) room (next_of serial) (counts_of (difference_of A B)) (rw yes at h)))
 
   -- else, with room, it writes the difference, with its length, its counts of tags and the serial after
   pub constructs : (serial : Serial) (room : ℕ) → ¬ (A ≡ B) → length (difference_of A B) ≤ room →
-      construct_of A B serial room ≡ constructed.Delta (next_of serial) (counts_of (difference_of A B))
+      construct_of A B serial room ≡ Ok (Some (next_of serial, counts_of (difference_of A B)))
   unfolding construct_of
   constructs serial room n h =
       let z : length (difference_of A B) ≡ 0 → ⊥ = λ e. n (difference_empty A B a.good b.good (no_bytes (difference_of A B) e)) in
@@ -106,14 +104,14 @@ module _ (A B : Bytes) (a : Acceptable A) (b : Acceptable B) where
   construct_writes out h = rw yes (out_whole (difference_of A B) out h)
 
   -- the difference can be applied to the old snapshot, never with refusal 3, and yields the new one
-  fitting : apply_admitted A (difference_of A B) ≡ Yes
+  fitting : apply_admitted A (difference_of A B) ≡ Ok tt
   fitting =
       rw (
         admitted Snapshot A Delta (difference_of A B) a.short difference_short a.good.fine (difference_fine A B a.good b.good),
         difference_fits A B a.good b.good,
       )
 
-  pub applies_to_old : (room : ℕ) → length B ≤ room → apply_of A (difference_of A B) room ≡ applied.Snapshot (length B)
+  pub applies_to_old : (room : ℕ) → length B ≤ room → apply_of A (difference_of A B) room ≡ Ok (length B)
   unfolding apply_of
   applies_to_old room h = rw (fitting, difference_yields A B a.good b.good, le-leb (length B) room h)
 
@@ -129,14 +127,14 @@ module _ (A B C : Bytes) (a : Acceptable A) (b : Acceptable B) (c : Acceptable C
       rw (difference_says A B a.good b.good, difference_says B C b.good c.good)
       (ap (encode Delta) (compose strings strings (items A) (items B) (items C) (map_of A a).sorted (map_of B b).sorted (map_of C c).sorted))
 
-  yes_both : admit_of Delta (difference_of A B) Delta (difference_of B C) ≡ Yes
+  yes_both : admit_of Delta (difference_of A B) Delta (difference_of B C) ≡ Ok tt
   yes_both =
       admitted Delta (difference_of A B) Delta (difference_of B C) (difference_short A B a b) (difference_short B C b c)
       (difference_fine A B a.good b.good) (difference_fine B C b.good c.good)
 
   -- and merge answers so
   pub merges : (serial : Serial) (room : ℕ) → length (difference_of A C) ≤ room →
-      merge_of (difference_of A B) (difference_of B C) serial room ≡ merged.Delta serial (counts_of (difference_of A C))
+      merge_of (difference_of A B) (difference_of B C) serial room ≡ Ok (serial, counts_of (difference_of A C))
   unfolding merge_of
   merges serial room h = rw (yes_both, merged_composes, le-leb (length (difference_of A C)) room h)
 
@@ -150,7 +148,7 @@ module _ (A B C : Bytes) (a : Acceptable A) (b : Acceptable B) (c : Acceptable C
   merged_yields out h = rw merged_composes (yields_new A C a c out h)
 
 -- the merge of two good deltas is a good delta
-pub merged_fine : (D F : Bytes) → verdict Delta D ≡ Fine → verdict Delta F ≡ Fine → verdict Delta (merged_of D F) ≡ Fine
+pub merged_fine : (D F : Bytes) → verdict Delta D ≡ Ok tt → verdict Delta F ≡ Ok tt → verdict Delta (merged_of D F) ≡ Ok tt
 unfolding merged_of
 merged_fine D F d f = (faithful Delta).good_bytes _ (merge_map (changes D) (changes F) ((faithful Delta).map_of D d) ((faithful Delta).map_of F f))
 
@@ -159,55 +157,55 @@ merged_fine D F d f = (faithful Delta).good_bytes _ (merge_map (changes D) (chan
 -- two answers or numbers that differ: from them anything follows
 
 -- no refusal of an input is 4
-input_four : (f : Form) (a : Bytes) (g : Form) (b : Bytes) (r : Refusal) → admit_of f a g b ≡ No r → ¬ (number_of r ≡ 4)
+input_four : (f : Form) (a : Bytes) (g : Form) (b : Bytes) (r : Refusal) → admit_of f a g b ≡ Err r → ¬ (number_of r ≡ 4)
 input_four f a g b r = go (leb (length a) (limit f)) (leb (length b) (limit g)) (verdict f a) (verdict g b)
   where
-    other : (q : Refusal) → No q ≡ No r → ¬ (number_of q ≡ 4) → ¬ (number_of r ≡ 4)
+    other : (q : Refusal) → ◌≡◌ {A = Admitted} (Err q) (Err r) → ¬ (number_of q ≡ 4) → ¬ (number_of r ≡ 4)
     other q e n m = let s : q ≡ r = cc in n (ap number_of s ∙ m)
 
     go : (t u : Bool) (v w : Verdict) →
-        and_then (cond t Yes (No (TooLong 1))) (and_then (cond u Yes (No (TooLong 2))) (and_then (verdict_admitted 1 v) (verdict_admitted 2 w))) ≡ No r → ¬ (number_of r ≡ 4)
+        and_then (cond t (Ok tt) (Err (TooLong 1))) (and_then (cond u (Ok tt) (Err (TooLong 2))) (and_then (verdict_admitted 1 v) (verdict_admitted 2 w))) ≡ Err r → ¬ (number_of r ≡ 4)
     go false u v w e = other (TooLong 1) e (λ (n : 10 ≡ 4). omega arith)
     go true false v w e = other (TooLong 2) e (λ (n : 10 ≡ 4). omega arith)
-    go true true (Bad at) w e = other (refusal.Bad 1 at) e (λ (n : 1 ≡ 4). omega arith)
-    go true true (Senseless at) w e = other (refusal.Senseless 1 at) e (λ (n : 12 ≡ 4). omega arith)
-    go true true (NotAbove at) w e = other (refusal.NotAbove 1 at) e (λ (n : 2 ≡ 4). omega arith)
-    go true true Fine Fine e = never cc
-    go true true Fine (Bad at) e = other (refusal.Bad 2 at) e (λ (n : 1 ≡ 4). omega arith)
-    go true true Fine (Senseless at) e = other (refusal.Senseless 2 at) e (λ (n : 12 ≡ 4). omega arith)
-    go true true Fine (NotAbove at) e = other (refusal.NotAbove 2 at) e (λ (n : 2 ≡ 4). omega arith)
+    go true true (Err (flaw.Bad at)) w e = other (refusal.Bad 1 at) e (λ (n : 1 ≡ 4). omega arith)
+    go true true (Err (flaw.Senseless at)) w e = other (refusal.Senseless 1 at) e (λ (n : 12 ≡ 4). omega arith)
+    go true true (Err (flaw.NotAbove at)) w e = other (refusal.NotAbove 1 at) e (λ (n : 2 ≡ 4). omega arith)
+    go true true (Ok _) (Ok _) e = never cc
+    go true true (Ok tt) (Err (flaw.Bad at)) e = other (refusal.Bad 2 at) e (λ (n : 1 ≡ 4). omega arith)
+    go true true (Ok tt) (Err (flaw.Senseless at)) e = other (refusal.Senseless 2 at) e (λ (n : 12 ≡ 4). omega arith)
+    go true true (Ok tt) (Err (flaw.NotAbove at)) e = other (refusal.NotAbove 2 at) e (λ (n : 2 ≡ 4). omega arith)
 
 -- with as much room as two inputs take together, construct never refuses any of them with 4
 pub enough_room : (A B : Bytes) → AllBytes A → AllBytes B → (serial : Serial) (room : ℕ) (r : Refusal) → length A + length B ≤ room →
-    construct_of A B serial room ≡ constructed.Refused r → ¬ (number_of r ≡ 4)
+    construct_of A B serial room ≡ Err r → ¬ (number_of r ≡ 4)
 unfolding construct_of
 enough_room A B a b serial room r h = go (admit_of Snapshot A Snapshot B) refl
   where
     written : (t u : Bool) → u ≡ true →
-        cond t constructed.NoChange (cond u (constructed.Delta (next_of serial) (counts_of (difference_of A B))) (constructed.Refused NoRoom)) ≡ constructed.Refused r → ⊥
+        ◌≡◌ {A = Constructed} (cond t (Ok None) (cond u (Ok (Some (next_of serial, counts_of (difference_of A B)))) (Err NoRoom))) (Err r) → ⊥
     written true u f e = never cc
     written false true f e = never cc
     written false false f e = never cc
 
-    go : (x : Admitted) → admit_of Snapshot A Snapshot B ≡ x → construct_at x (difference_of A B) serial room ≡ constructed.Refused r → ¬ (number_of r ≡ 4)
-    go (No q) e f n = let s : q ≡ r = cc in input_four Snapshot A Snapshot B q e (ap number_of s ∙ n)
-    go Yes e f n =
+    go : (x : Admitted) → admit_of Snapshot A Snapshot B ≡ x → construct_at x (difference_of A B) serial room ≡ Err r → ¬ (number_of r ≡ 4)
+    go (Err q) e f n = let s : q ≡ r = cc in input_four Snapshot A Snapshot B q e (ap number_of s ∙ n)
+    go (Ok tt) e f n =
         let i = admitted_inputs Snapshot A Snapshot B e in
         let l = difference_length A B (record { octets = a; fine = i.fine_a }) (record { octets = b; fine = i.fine_b }) in
         absurd (written (eqb (length (difference_of A B)) 0) (leb (length (difference_of A B)) room) (le-leb (length (difference_of A B)) room (omega arith)) f)
 
 -- so it is in the program, which lends 65,536 bytes for two inputs of at most 32,768
 pub program_room : (A B : Bytes) → AllBytes A → AllBytes B → length A ≤ 32_768 → length B ≤ 32_768 → (serial : Serial) (r : Refusal) →
-    construct_of A B serial 65_536 ≡ constructed.Refused r → ¬ (number_of r ≡ 4)
+    construct_of A B serial 65_536 ≡ Err r → ¬ (number_of r ≡ 4)
 program_room A B a b h k serial r = enough_room A B a b serial 65_536 r (omega arith)
 
 -- the difference is refused on the old snapshot for want of room alone
-applies_but_room : (A B : Bytes) → Acceptable A → Acceptable B → (room : ℕ) (r : Refusal) → apply_of A (difference_of A B) room ≡ applied.Refused r → number_of r ≡ 4
+applies_but_room : (A B : Bytes) → Acceptable A → Acceptable B → (room : ℕ) (r : Refusal) → apply_of A (difference_of A B) room ≡ Err r → number_of r ≡ 4
 unfolding apply_of
 applies_but_room A B a b room r e =
     go (leb (length (applied_of A (difference_of A B))) room) (rw (fitting A B a b) at e)
   where
-    go : (t : Bool) → cond t (applied.Snapshot (length (applied_of A (difference_of A B)))) (applied.Refused NoRoom) ≡ applied.Refused r → number_of r ≡ 4
+    go : (t : Bool) → cond t (Ok (length (applied_of A (difference_of A B)))) (Err NoRoom) ≡ Err r → number_of r ≡ 4
     go true e = never cc
     go false e = let q : NoRoom ≡ r = cc in sym (ap number_of q)
 

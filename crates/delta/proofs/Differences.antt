@@ -13,7 +13,6 @@ use Rattle.change.specs.Application.{Applies}
 use Rattle.change.proofs.Whole.{yields, applies, diff_nil, nil_diff}
 use Rattle.change.proofs.Items.{ItemFits, items_fit}
 use Rattle.body.specs.declared.tag.Form.TheVariants.{Snapshot, Delta}
-use Rattle.field.specs.declared.verdict.Verdict.TheVariants.{Fine}
 use Rattle.field.specs.Verdict.{verdict}
 use Rattle.field.specs.Cells.{Cell, cells}
 use Rattle.field.specs.Cells as run
@@ -21,11 +20,11 @@ use Rattle.payload.specs.Content.{Bytes, entry_of}
 use Rattle.payload.specs.Valid.{IsMap}
 use Rattle.payload.specs.Payload.{entries, encode, items, changes}
 use Rattle.payload.proofs.Faithful.{faithful, one_form, entries_end}
-use Rattle.fit.specs.declared.Fit.TheVariants.{All}
 use Rattle.fit.specs.Fit.{misfit, fit_of}
 use Rattle.delta.specs.Answer.{difference_of, applied_of}
 use Rattle.delta.specs.Demand.{GoodSnapshot}
 use Rattle.payload.proofs.Closed.{diff_map}
+use Rattle.std.specs.Prelude.{None, Ok}
 
 pub good_map : (s : Bytes) → GoodSnapshot s → IsMap Snapshot (items s)
 good_map s g = (faithful Snapshot).map_of s g.fine
@@ -37,7 +36,7 @@ empty_good = record { octets = λ i. omega arith; fine = (faithful Snapshot).goo
 
 -- fields that all fit have no first one that does not
 fit_all : (A : change.Snapshot Bytes Bytes) (at : ℕ) (cs : List Cell) → order.All (ItemFits strings bytes A) (map (entry_of Delta) cs) →
-    misfit A at cs ≡ All
+    misfit A at cs ≡ None
 unfolding misfit
 fit_all A at [] h = refl
 fit_all A at (c ∷ cs) h = rw h.0 (fit_all A (at + 3 + length c.body) cs h.1)
@@ -46,7 +45,7 @@ module _ (A B : Bytes) (a : GoodSnapshot A) (b : GoodSnapshot B) where
   change_map : IsMap Delta (diff bytes bytes (items A) (items B))
   change_map = diff_map (items A) (items B) (good_map A a) (good_map B b)
 
-  pub difference_fine : verdict Delta (difference_of A B) ≡ Fine
+  pub difference_fine : verdict Delta (difference_of A B) ≡ Ok tt
   unfolding difference_of
   difference_fine = (faithful Delta).good_bytes (diff bytes bytes (items A) (items B)) change_map
 
@@ -58,7 +57,7 @@ module _ (A B : Bytes) (a : GoodSnapshot A) (b : GoodSnapshot B) where
   difference_applies = rw difference_says (applies strings strings (items A) (items B) (good_map A a).sorted (good_map B b).sorted)
 
   -- no refusal 3
-  pub difference_fits : fit_of A (difference_of A B) ≡ All
+  pub difference_fits : fit_of A (difference_of A B) ≡ None
   unfolding entries
   difference_fits =
       fit_all (items A) 0 (cells (difference_of A B))

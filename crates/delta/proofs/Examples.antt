@@ -9,7 +9,6 @@ use Rattle.body.specs.declared.tag.Form.TheVariants.{Snapshot, Delta}
 use Rattle.body.specs.Origin.{clean, good_prefix, good_origin}
 use Rattle.body.specs.Aspa.{asns, ascending, ascending_from, good_providers, good_aspa, good_update, is_in, sensible_asns, sensible_providers, sensible_aspa, sensible_update}
 use Rattle.body.specs.Tag.{tag_of, kind_of, good_body, sensible}
-use Rattle.field.specs.declared.verdict.Verdict.TheVariants.{Fine}
 use Rattle.field.specs.Key.{key_of}
 use Rattle.field.specs.Head.{front}
 use Rattle.field.specs.Verdict.{judge, verdict_f, verdict}
@@ -18,13 +17,12 @@ use Rattle.field.specs.Cells as run
 use Rattle.payload.specs.Content.{Bytes}
 use Rattle.payload.specs.Count.{announced_in}
 use Rattle.payload.specs.Payload.{entries, encode}
-use Rattle.fit.specs.declared.Fit.TheVariants.{Misfit}
 use Rattle.fit.specs.Fit.{misfit, fit_of}
 use Rattle.delta.specs.declared.refusal.Refusal.TheVariants.{Bad, Senseless}
-use Rattle.delta.specs.declared.admit.Admitted.TheVariants.{Yes, No}
 use Rattle.delta.specs.Admission.{admit_one_of, admit_of}
 use Rattle.delta.specs.Answer.{difference_of, merged_of, applied_of}
 use Rattle.delta.specs.Shortest.{LeadsTo, tagged}
+use Rattle.std.specs.Prelude.{Some, Err, Ok}
 
 -- AS 64497 and AS 64498 as the only provider of the customer 64500
 abbrev p : Bytes
@@ -64,11 +62,11 @@ pub record Examples : Type 0 where
   idle_difference : difference_of (held p) (held p) ≡ []
   -- an announcement over a held key would yield the new providers in 11 bytes where the difference has 17, but cannot be applied
   unfit_yields : applied_of (held p) (0x31 ∷ 0 ∷ 8 ∷ (customer ++ q)) ≡ held q
-  unfit : fit_of (held p) (0x31 ∷ 0 ∷ 8 ∷ (customer ++ q)) ≡ Misfit 0
+  unfit : fit_of (held p) (0x31 ∷ 0 ∷ 8 ∷ (customer ++ q)) ≡ Some 0
   fit_difference : difference_of (held p) (held q) ≡ updated p q
   -- off a chain two groupings of the same good deltas differ
-  announce_good : verdict Delta (origin 0x11) ≡ Fine
-  withdraw_good : verdict Delta (origin 0x12) ≡ Fine
+  announce_good : verdict Delta (origin 0x11) ≡ Ok tt
+  withdraw_good : verdict Delta (origin 0x12) ≡ Ok tt
   same_leaves : leaves left ≡ leaves right
   left_first : merge_tree merged_of left ≡ origin 0x12
   right_first : merge_tree merged_of right ≡ []
@@ -82,14 +80,14 @@ pub record Examples : Type 0 where
   origin_brings : tagged 0x11 (origin 0x11) ≡ 1
   origins_after : tagged 0x01 (origin 0x01) ≡ 1
   -- refusal 12 names the argument and the field; of two arguments the first one's comes first, and 1 before 12 at one field
-  bare_alone : admit_one_of Snapshot (bare 0x03) ≡ No (Senseless 1 0)
-  bare_second : admit_of Snapshot (held p) Delta (origin 0x12 ++ bare 0x32) ≡ No (Senseless 2 26)
-  bare_first : admit_of Delta (bare 0x31) Delta (0x31 ∷ []) ≡ No (Senseless 1 0)
-  own_provider : admit_one_of Snapshot (held customer) ≡ No (Senseless 1 0)
-  own_former : admit_one_of Delta (updated customer q) ≡ No (Senseless 1 0)
-  own_new : admit_one_of Delta (updated p customer) ≡ No (Senseless 1 0)
-  own_sound : admit_one_of Delta (updated p q) ≡ Yes
-  bad_first : admit_one_of Snapshot (0x03 ∷ 0 ∷ 12 ∷ (customer ++ (customer ++ p))) ≡ No (Bad 1 0)
+  bare_alone : admit_one_of Snapshot (bare 0x03) ≡ Err (Senseless 1 0)
+  bare_second : admit_of Snapshot (held p) Delta (origin 0x12 ++ bare 0x32) ≡ Err (Senseless 2 26)
+  bare_first : admit_of Delta (bare 0x31) Delta (0x31 ∷ []) ≡ Err (Senseless 1 0)
+  own_provider : admit_one_of Snapshot (held customer) ≡ Err (Senseless 1 0)
+  own_former : admit_one_of Delta (updated customer q) ≡ Err (Senseless 1 0)
+  own_new : admit_one_of Delta (updated p customer) ≡ Err (Senseless 1 0)
+  own_sound : admit_one_of Delta (updated p q) ≡ Ok tt
+  bad_first : admit_one_of Snapshot (0x03 ∷ 0 ∷ 12 ∷ (customer ++ (customer ++ p))) ≡ Err (Bad 1 0)
 
 pub examples : Examples
 unfolding verdict verdict_f judge front good_body tag_of kind_of key_of good_origin good_prefix clean good_aspa good_update good_providers asns ascending ascending_from sensible sensible_aspa sensible_update sensible_providers sensible_asns is_in cells cells_f field run.cell_bytes entries encode walk misfit difference_of merged_of applied_of

@@ -4,7 +4,6 @@ use Rattle.order.specs.Comparison.{bytes}
 use Rattle.change.specs.Application.{apply}
 use Rattle.change.specs.Short as maps
 use Rattle.body.specs.declared.tag.Form.TheVariants.{Snapshot, Delta}
-use Rattle.field.specs.declared.verdict.Verdict.TheVariants.{Fine}
 use Rattle.field.specs.Verdict.{verdict}
 use Rattle.payload.specs.Content.{Bytes}
 use Rattle.payload.specs.Payload.{items, changes}
@@ -15,6 +14,7 @@ use Rattle.delta.specs.Demand.{GoodSnapshot}
 use Rattle.delta.specs.Shortest.{LeadsTo}
 use Rattle.delta.proofs.Differences.{good_map}
 use Rattle.delta.proofs.Answering.{fit_applies}
+use Rattle.std.specs.Prelude.{Ok}
 
 module _ (A C D : Bytes) (a : GoodSnapshot A) (l : LeadsTo A C D) where
   -- what is held afterwards, as a map
@@ -26,7 +26,7 @@ module _ (A C D : Bytes) (a : GoodSnapshot A) (l : LeadsTo A C D) where
       (apply_map (items A) (changes D) (good_map A a) ((faithful Delta).map_of D l.fine))
 
   -- and it is good
-  pub leads_fine : verdict Snapshot C ≡ Fine
+  pub leads_fine : verdict Snapshot C ≡ Ok tt
   unfolding applied_of
   leads_fine =
       ap (verdict Snapshot) (sym l.yields)

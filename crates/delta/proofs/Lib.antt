@@ -1,4 +1,3 @@
-pub mod Admitting
 pub mod Answering
 pub mod Numbers
 pub mod Differences

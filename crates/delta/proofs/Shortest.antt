@@ -19,7 +19,6 @@ use Rattle.serial.specs.declared.Serial.{Serial}
 use Rattle.number.specs.Bytes.{AllBytes}
 use Rattle.body.specs.declared.tag.Form.{Form}
 use Rattle.body.specs.declared.tag.Form.TheVariants.{Snapshot, Delta}
-use Rattle.field.specs.declared.verdict.Verdict.TheVariants.{Fine}
 use Rattle.field.specs.Verdict.{verdict}
 use Rattle.field.specs.Cells.{Cell, cells}
 use Rattle.field.specs.Cells as run
@@ -28,12 +27,7 @@ use Rattle.payload.specs.Content.{Bytes, cell_for}
 use Rattle.payload.specs.Payload.{entries, encode, items, changes}
 use Rattle.payload.specs.Limit.{limit}
 use Rattle.payload.proofs.Faithful.{faithful}
-use Rattle.fit.specs.declared.Fit.{Fit}
-use Rattle.fit.specs.declared.Fit.TheVariants.{All, Misfit}
 use Rattle.fit.specs.Fit.{fit_of}
-use Rattle.delta.specs.declared.admit.Admitted.{Admitted}
-use Rattle.delta.specs.declared.admit.Admitted.TheVariants.{Yes, No}
-use Rattle.delta.specs.declared.apply.Applied.TheVariants as applied
 use Rattle.delta.specs.Admission.{admit_of}
 use Rattle.delta.specs.Answer.{difference_of, merged_of, applied_of, fit_admitted, apply_admitted, apply_answer, apply_of}
 use Rattle.delta.specs.Demand.{GoodSnapshot, Acceptable}
@@ -43,11 +37,13 @@ use Rattle.delta.proofs.Differences.{good_map, difference_fine, difference_says,
 use Rattle.delta.proofs.Demand.{difference_short, merges, merge_writes}
 use Rattle.delta.proofs.Leading.{leads_map}
 use Rattle.delta.proofs.Balance.{balanced}
+use Rattle.std.specs.Prelude.{None, Option, Some, Err, Ok}
+use Rattle.delta.specs.Admission.{Admitted}
 
 -- two answers that differ: from them anything follows
 
 -- the fields of good bytes are those of what they say
-pub cells_of : (form : Form) (s : Bytes) → AllBytes s → verdict form s ≡ Fine → cells s ≡ map (cell_for form) (entries form s)
+pub cells_of : (form : Form) (s : Bytes) → AllBytes s → verdict form s ≡ Ok tt → cells s ≡ map (cell_for form) (entries form s)
 unfolding encode
 cells_of form s o e = ap cells (sym ((faithful form).bytes_back s o e)) ∙ cells_encode (map (cell_for form) (entries form s))
 
@@ -110,17 +106,17 @@ enters out serial h A B C a b c =
     ) (ap (λ (d : Bytes). some d) (take-append_seam (difference_of A C) (drop (length (difference_of A C)) out)))
 
 -- what `apply` accepts is good and fits
-fit_yes : (f : Fit) → fit_admitted f ≡ Yes → f ≡ All
-fit_yes All e = refl
-fit_yes (Misfit at) e = never cc
+fit_yes : (f : Option ℕ) → fit_admitted f ≡ Ok tt → f ≡ None
+fit_yes None e = refl
+fit_yes (Some at) e = never cc
 
-accepts : (A D : Bytes) (room n : ℕ) → apply_of A D room ≡ applied.Snapshot n → LeadsTo A (applied_of A D) D
+accepts : (A D : Bytes) (room n : ℕ) → apply_of A D room ≡ Ok n → LeadsTo A (applied_of A D) D
 unfolding apply_of
 accepts A D room n h = go (apply_admitted A D) refl h
   where
-    go : (x : Admitted) → apply_admitted A D ≡ x → apply_answer x (applied_of A D) room ≡ applied.Snapshot n → LeadsTo A (applied_of A D) D
-    go (No r) e h = never cc
-    go Yes e h =
+    go : (x : Admitted) → apply_admitted A D ≡ x → apply_answer x (applied_of A D) room ≡ Ok n → LeadsTo A (applied_of A D) D
+    go (Err r) e h = never cc
+    go (Ok tt) e h =
         let y = both_yes (admit_of Snapshot A Delta D) (fit_admitted (fit_of A D)) e in
         record { fine = (admitted_inputs Snapshot A Delta D y.0).fine_b; fits = fit_yes (fit_of A D) y.1; yields = refl }
 

@@ -1,5 +1,6 @@
 -- Answers are as short as they can be, whatever way merges are grouped, and what is held afterwards.
-use Rattle.std.specs.Prelude.{ℕ, ◌+◌, ◌≤◌, ◌≡◌, List, eqb, length, take}
+use Rattle.delta.specs.Answer.{Merged}
+use Rattle.std.specs.Prelude.{ℕ, ◌+◌, ◌≤◌, ◌≡◌, List, eqb, length, take, None, Ok, Err, Result}
 use Rattle.std.proofs.Math.Option.{Option, none, some}
 use Rattle.order.specs.Map as order
 use Rattle.change.specs.History.{newest}
@@ -8,24 +9,21 @@ use Rattle.change.specs.Grouping.{Grouping, leaves, merge_tree, steps}
 use Rattle.serial.specs.declared.Serial.{Serial}
 use Rattle.number.specs.Bytes.{AllBytes}
 use Rattle.body.specs.declared.tag.Form.TheVariants.{Delta}
-use Rattle.field.specs.declared.verdict.Verdict.TheVariants.{Fine}
 use Rattle.field.specs.Verdict.{verdict}
 use Rattle.field.specs.Cells.{cells}
 use Rattle.payload.specs.Content.{Bytes}
 use Rattle.payload.specs.Count.{count_tags, announced_in, withdrawn_in}
 use Rattle.payload.specs.Limit.{limit}
-use Rattle.fit.specs.declared.Fit.TheVariants.{All}
 use Rattle.fit.specs.Fit.{fit_of}
-use Rattle.delta.specs.declared.merge.Merged.{Merged}
-use Rattle.delta.specs.declared.merge.Merged.TheVariants as merged
-use Rattle.delta.specs.declared.apply.Applied.TheVariants as applied
 use Rattle.delta.specs.Demand.{GoodSnapshot, Acceptable}
 use Rattle.delta.specs.Answer.{difference_of, merged_of, applied_of, merge_of, merge_out, apply_of}
+use Rattle.item.specs.declared.sink.Counts.{Counts}
+use Rattle.delta.specs.declared.refusal.Refusal.{Refusal}
 
 -- a good delta that can be applied to A and yields C
 pub record LeadsTo (A C D : Bytes) : Type 0 where
-  pub fine : verdict Delta D ≡ Fine
-  pub fits : fit_of A D ≡ All
+  pub fine : verdict Delta D ≡ Ok tt
+  pub fits : fit_of A D ≡ None
   pub yields : applied_of A D ≡ C
 
 -- an answer beside another delta D
@@ -41,8 +39,8 @@ pub record NoLonger (answer D : Bytes) : Type 0 where
 
 -- what `merge` has written into `out`, if it answers with a delta
 abbrev pub written_of : Merged → Bytes → Option Bytes
-written_of (merged.Delta serial counts) out = some (take counts.len out)
-written_of (merged.Refused r) out = none
+written_of (Ok (serial, counts)) out = some (take counts.len out)
+written_of (Err r) out = none
 
 -- `merge`, called with this output on two deltas that were written before
 abbrev pub merge_into : Bytes → Serial → Option Bytes → Option Bytes → Option Bytes
@@ -65,7 +63,7 @@ pub record Balance (A D C : Bytes) : Type 0 where
 
 pub record Shortest : Type 0 where
   -- each delta that `apply` accepts on A leads from A to what it writes
-  pub accepted : (A D : Bytes) (room n : ℕ) → apply_of A D room ≡ applied.Snapshot n → LeadsTo A (applied_of A D) D
+  pub accepted : (A D : Bytes) (room n : ℕ) → apply_of A D room ≡ Ok n → LeadsTo A (applied_of A D) D
   -- the difference leads from A to C, and no good delta that does has fewer items or bytes
   pub leads : (A C : Bytes) → GoodSnapshot A → GoodSnapshot C → LeadsTo A C (difference_of A C)
   pub shortest : (A C D : Bytes) → GoodSnapshot A → GoodSnapshot C → AllBytes D → LeadsTo A C D → NoLonger (difference_of A C) D

@@ -5,14 +5,8 @@ ghost use Rattle.delta.specs.Admission.{judged_of, admit_one_of, admit_of};
 
 use crate::refusal::Refusal;
 use body::tag::Form;
-use field::verdict::Verdict;
+use field::verdict::Flaw;
 use verdict::check::check;
-
-#[derive(Clone, Copy)]
-pub enum Admitted {
-    Yes,
-    No(Refusal),
-}
 
 pub const SNAPSHOT_LIMIT: usize = 16777216;
 
@@ -29,39 +23,37 @@ pub fn within_limit(form: Form, s: &[u8]) -> bool
 }
 
 // Refusals 1, 12 and 2 of one input.
-pub fn judged(form: Form, s: &[u8], argument: u8) -> Admitted
+pub fn judged(form: Form, s: &[u8], argument: u8) -> Result<(), Refusal>
     ensures { result ≡ judged_of form s.now argument }
 {
     match check(form, s) {
-        Verdict::Fine => Admitted::Yes,
-        Verdict::Bad { at } => Admitted::No(Refusal::Bad { argument, at }),
-        Verdict::Senseless { at } => Admitted::No(Refusal::Senseless { argument, at }),
-        Verdict::NotAbove { at } => Admitted::No(Refusal::NotAbove { argument, at }),
+        Ok(()) => Ok(()),
+        Err(Flaw::Bad { at }) => Err(Refusal::Bad { argument, at }),
+        Err(Flaw::Senseless { at }) => Err(Refusal::Senseless { argument, at }),
+        Err(Flaw::NotAbove { at }) => Err(Refusal::NotAbove { argument, at }),
     }
 }
 
 // A lone input.
-pub fn admit_one(form: Form, s: &[u8]) -> Admitted
+pub fn admit_one(form: Form, s: &[u8]) -> Result<(), Refusal>
     ensures { result ≡ admit_one_of form s.now }
 {
     if !within_limit(form, s) {
-        return Admitted::No(Refusal::TooLong { argument: 1 });
+        return Err(Refusal::TooLong { argument: 1 });
     }
     judged(form, s, 1)
 }
 
 // A pair of inputs: 10 over both, then 1, 12 and 2, the first argument first.
-pub fn admit(first: Form, a: &[u8], second: Form, b: &[u8]) -> Admitted
+pub fn admit(first: Form, a: &[u8], second: Form, b: &[u8]) -> Result<(), Refusal>
     ensures { result ≡ admit_of first a.now second b.now }
 {
     if !within_limit(first, a) {
-        return Admitted::No(Refusal::TooLong { argument: 1 });
+        return Err(Refusal::TooLong { argument: 1 });
     }
     if !within_limit(second, b) {
-        return Admitted::No(Refusal::TooLong { argument: 2 });
+        return Err(Refusal::TooLong { argument: 2 });
     }
-    match judged(first, a, 1) {
-        Admitted::No(r) => Admitted::No(r),
-        Admitted::Yes => judged(second, b, 2),
-    }
+    judged(first, a, 1)?;
+    judged(second, b, 2)
 }

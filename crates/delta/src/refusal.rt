@@ -2,7 +2,8 @@
 ghost use Rattle.std.specs.Prelude.{◌≡◌};
 ghost use Rattle.delta.specs.Refusal.{number_of, argument_of, offset_of};
 
-#[derive(Clone, Copy)]
+// Kept: an argument is the number that document 01 and C give it.
+#[derive(Clone, Copy, Debug, PartialEq, Eq)]
 pub enum Refusal {
     // A field is cut short, has an unknown tag, or breaks a body rule.
     Bad { argument: u8, at: usize },
@@ -40,21 +41,21 @@ impl Refusal {
         ensures { result ≡ number_of self }
     {
         match self {
-            Refusal::Bad { argument: _, at: _ } => 1,
-            Refusal::NotAbove { argument: _, at: _ } => 2,
-            Refusal::CannotApply { at: _ } => 3,
+            Refusal::Bad { .. } => 1,
+            Refusal::NotAbove { .. } => 2,
+            Refusal::CannotApply { .. } => 3,
             Refusal::NoRoom => 4,
             Refusal::OtherSession => 5,
             Refusal::NotServed => 6,
             Refusal::IllFormed => 7,
             Refusal::BadKeep => 8,
             Refusal::StoreFull => 9,
-            Refusal::TooLong { argument: _ } => 10,
+            Refusal::TooLong { .. } => 10,
             Refusal::BadList => 11,
-            Refusal::Senseless { argument: _, at: _ } => 12,
-            Refusal::Faulty { at: _ } => 13,
-            Refusal::Absent { at: _ } => 14,
-            Refusal::Present { at: _ } => 15,
+            Refusal::Senseless { .. } => 12,
+            Refusal::Faulty { .. } => 13,
+            Refusal::Absent { .. } => 14,
+            Refusal::Present { .. } => 15,
         }
     }
 
@@ -62,21 +63,21 @@ impl Refusal {
         ensures { result ≡ argument_of self }
     {
         match self {
-            Refusal::Bad { argument, at: _ } => argument,
-            Refusal::NotAbove { argument, at: _ } => argument,
-            Refusal::CannotApply { at: _ } => 2,
-            Refusal::NoRoom => 0,
-            Refusal::OtherSession => 0,
-            Refusal::NotServed => 0,
-            Refusal::IllFormed => 0,
-            Refusal::BadKeep => 0,
-            Refusal::StoreFull => 0,
-            Refusal::TooLong { argument } => argument,
-            Refusal::BadList => 0,
-            Refusal::Senseless { argument, at: _ } => argument,
-            Refusal::Faulty { at: _ } => 2,
-            Refusal::Absent { at: _ } => 2,
-            Refusal::Present { at: _ } => 2,
+            Refusal::Bad { argument, .. }
+            | Refusal::NotAbove { argument, .. }
+            | Refusal::TooLong { argument }
+            | Refusal::Senseless { argument, .. } => argument,
+            Refusal::CannotApply { .. }
+            | Refusal::Faulty { .. }
+            | Refusal::Absent { .. }
+            | Refusal::Present { .. } => 2,
+            Refusal::NoRoom
+            | Refusal::OtherSession
+            | Refusal::NotServed
+            | Refusal::IllFormed
+            | Refusal::BadKeep
+            | Refusal::StoreFull
+            | Refusal::BadList => 0,
         }
     }
 
@@ -84,21 +85,21 @@ impl Refusal {
         ensures { result ≡ offset_of self }
     {
         match self {
-            Refusal::Bad { argument: _, at } => at,
-            Refusal::NotAbove { argument: _, at } => at,
-            Refusal::CannotApply { at } => at,
-            Refusal::NoRoom => 0,
-            Refusal::OtherSession => 0,
-            Refusal::NotServed => 0,
-            Refusal::IllFormed => 0,
-            Refusal::BadKeep => 0,
-            Refusal::StoreFull => 0,
-            Refusal::TooLong { argument: _ } => 0,
-            Refusal::BadList => 0,
-            Refusal::Senseless { argument: _, at } => at,
-            Refusal::Faulty { at } => at,
-            Refusal::Absent { at } => at,
-            Refusal::Present { at } => at,
+            Refusal::Bad { at, .. }
+            | Refusal::NotAbove { at, .. }
+            | Refusal::CannotApply { at }
+            | Refusal::Senseless { at, .. }
+            | Refusal::Faulty { at }
+            | Refusal::Absent { at }
+            | Refusal::Present { at } => at,
+            Refusal::NoRoom
+            | Refusal::OtherSession
+            | Refusal::NotServed
+            | Refusal::IllFormed
+            | Refusal::BadKeep
+            | Refusal::StoreFull
+            | Refusal::TooLong { .. }
+            | Refusal::BadList => 0,
         }
     }
 }

@@ -8,12 +8,11 @@ use native.Mathlib.Omega.{arith}
 use borrow.Author.Tests.{le-leb}
 use lib.ListN.{length, length-append}
 use lib.Seq.{take-append_seam, drop-append_seam, get_or-append-add}
-use Rattle.order.specs.declared.Ordering.TheVariants.{Less}
+use Rattle.std.specs.declared.cmp.Ordering.TheVariants.{Less}
 use Rattle.order.specs.Comparison.{bytes}
 use Rattle.number.specs.Bytes.{AllBytes}
 use Rattle.body.specs.declared.tag.Form.{Form}
 use Rattle.body.specs.Tag.{good_body, sensible, kind_of}
-use Rattle.field.specs.declared.verdict.Verdict.TheVariants.{Fine}
 use Rattle.field.specs.Head.{whole, front}
 use Rattle.field.specs.Key.{key_of}
 use Rattle.field.specs.Verdict.{verdict}
@@ -21,6 +20,7 @@ use Rattle.field.specs.Cells.{Cell, cells, field, cell_bytes}
 use Rattle.field.proofs.Fronts.{opens}
 use Rattle.field.specs.Run.{Run, done, more}
 use Rattle.field.proofs.Run.{cells_end, cells_more, run_verdict}
+use Rattle.std.specs.Prelude.{Ok}
 
 -- a field is read as it was written
 pub front_field : (tag : ℕ) (b s : List ℕ) → front (field tag b ++ s) ≡ whole tag b s
@@ -55,7 +55,7 @@ ascent_run form none = done
 ascent_run form (next {c = c} {cs = cs} g z o a) =
     more c.tag c.body (cell_bytes cs) (front_field c.tag c.body (cell_bytes cs)) g z o (ascent_run form a)
 
-pub ascent_fine : (form : Form) (cs : List Cell) → Ascent form (0 ∷ []) cs → verdict form (cell_bytes cs) ≡ Fine
+pub ascent_fine : (form : Form) (cs : List Cell) → Ascent form (0 ∷ []) cs → verdict form (cell_bytes cs) ≡ Ok tt
 ascent_fine form cs a = run_verdict form (cell_bytes cs) (ascent_run form a)
 
 -- ---- bytes

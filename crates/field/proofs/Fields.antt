@@ -10,13 +10,11 @@ use lib.Dec.{leb}
 use lib.ListN.{length, get_or, take, drop, length-drop, drop_of_length-le}
 use lib.Seq.{drop-cons, drop-drop, length-take-le, take-append_seam, drop-append_seam}
 use Rattle.order.proofs.Never.{never}
-use Rattle.number.specs.Number.{two_at, word_at}
+use Rattle.number.specs.Number.{two_at}
 use Rattle.number.specs.Bytes.{part}
 use Rattle.field.specs.declared.head.Field.{Field}
 use Rattle.field.specs.declared.head.Field.TheVariants.{End, Cut, Whole}
-use Rattle.field.specs.declared.words.Words.{Words}
 use Rattle.field.specs.Head.{Front, end, cut, whole, front, place, field_at}
-use Rattle.field.specs.Words.{words_at}
 use Rattle.field.proofs.Fronts.{opens, shorter}
 
 -- ---- how field_at finds it
@@ -128,9 +126,3 @@ module _ (s : List ℕ) (at : ℕ) (r : Field) (f : r ≡ field_at s at) where
     -- and so less is left behind it
     pub field_less : length s - to < length s - at
     field_less = let w = whole_at in omega arith
-
--- ---- the words of a field
-
-pub words_read : (s : List ℕ) (at x y z t : ℕ) → x ≡ word_at s at → y ≡ word_at s (at + 8) → z ≡ word_at s (at + 16) → t ≡ two_at s (at + 24)
-    → ◌≡◌ {A = Words} (record { first = x; second = y; third = z; last = t }) (words_at s at)
-words_read s at x y z t p q r l = λ i. record { first = p i; second = q i; third = r i; last = l i }

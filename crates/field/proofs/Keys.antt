@@ -9,8 +9,8 @@ use borrow.Author.Tests.{eq-eqb, ne_eqb}
 use lib.Dec.{eqb}
 use lib.ListN.{length, take, drop, length-take, length-drop, drop_of_length-le}
 use lib.Seq.{take-take, take_all}
-use Rattle.order.specs.declared.Ordering.{Ordering}
-use Rattle.order.specs.declared.Ordering.TheVariants.{Less, Greater}
+use Rattle.std.specs.declared.cmp.Ordering.{Ordering}
+use Rattle.std.specs.declared.cmp.Ordering.TheVariants.{Less, Greater}
 use Rattle.order.specs.Comparison.{bytes}
 use Rattle.order.proofs.Comparison.{number_less, number_equal, number_greater}
 use Rattle.number.specs.Bytes.{part}

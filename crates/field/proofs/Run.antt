@@ -5,20 +5,21 @@ use mathlib.Core.List.{List, [], ◌∷◌}
 use mathlib.Core.Bool.{Bool, true, false, cond}
 use native.Mathlib.Omega.{arith}
 use lib.ListN.{length}
-use Rattle.order.specs.declared.Ordering.{Ordering}
-use Rattle.order.specs.declared.Ordering.TheVariants.{Less, Equal, Greater}
+use Rattle.std.specs.declared.cmp.Ordering.{Ordering}
+use Rattle.std.specs.declared.cmp.Ordering.TheVariants.{Less, Equal, Greater}
 use Rattle.order.specs.Comparison.{bytes, is_less}
 use Rattle.order.proofs.Never.{never}
 use Rattle.body.specs.declared.tag.Form.{Form}
 use Rattle.body.specs.Tag.{good_body, sensible, kind_of}
-use Rattle.field.specs.declared.verdict.Verdict.{Verdict}
-use Rattle.field.specs.declared.verdict.Verdict.TheVariants.{Fine, Bad, Senseless, NotAbove}
 use Rattle.field.specs.Head.{Front, end, cut, whole, front}
 use Rattle.field.specs.Key.{key_of}
 use Rattle.field.specs.Verdict.{judge, verdict_f, verdict}
 use Rattle.field.specs.Run.{Run, done, more}
 use Rattle.field.specs.Cells.{Cell, cells_f, cells}
 use Rattle.field.proofs.Fronts.{front_end, shorter, end≢whole, cut≢whole}
+use Rattle.field.specs.declared.verdict.Flaw.TheVariants as flaw
+use Rattle.field.specs.Verdict.{Verdict}
+use Rattle.std.specs.Prelude.{Err, Ok}
 
 -- ---- the cells, without a bound on their number
 
@@ -71,19 +72,19 @@ cells_more s tag b rest e =
 -- ---- a good run of fields
 
 -- two verdicts that differ
-bad≢fine : {X : Type 0} {at : ℕ} → Bad at ≡ Fine → X
+bad≢fine : {X : Type 0} {at : ℕ} → ◌≡◌ {A = Verdict} (Err (flaw.Bad at)) (Ok tt) → X
 bad≢fine e = never cc
 
-senseless≢fine : {X : Type 0} {at : ℕ} → Senseless at ≡ Fine → X
+senseless≢fine : {X : Type 0} {at : ℕ} → ◌≡◌ {A = Verdict} (Err (flaw.Senseless at)) (Ok tt) → X
 senseless≢fine e = never cc
 
-low≢fine : {X : Type 0} {at : ℕ} → NotAbove at ≡ Fine → X
+low≢fine : {X : Type 0} {at : ℕ} → ◌≡◌ {A = Verdict} (Err (flaw.NotAbove at)) (Ok tt) → X
 low≢fine e = never cc
 
 module _ (form : Form) where
   -- a judgement that finds nothing found a good body that makes sense, above the key before it
-  fine_whole : (at : ℕ) (g c : Bool) (o : Ordering) (v : Verdict) → cond g (cond c (cond (is_less o) v (NotAbove at)) (Senseless at)) (Bad at) ≡ Fine
-      → (g ≡ true) × (c ≡ true) × (o ≡ Less) × (v ≡ Fine)
+  fine_whole : (at : ℕ) (g c : Bool) (o : Ordering) (v : Verdict) → cond g (cond c (cond (is_less o) v (Err (flaw.NotAbove at))) (Err (flaw.Senseless at))) (Err (flaw.Bad at)) ≡ Ok tt
+      → (g ≡ true) × (c ≡ true) × (o ≡ Less) × (v ≡ Ok tt)
   fine_whole at true true Less v e = (refl, refl, refl, e)
   fine_whole at true true Equal v e = low≢fine e
   fine_whole at true true Greater v e = low≢fine e
@@ -91,10 +92,10 @@ module _ (form : Form) where
   fine_whole at false c o v e = bad≢fine e
 
   abbrev Runs : ℕ → Type 0
-  Runs n = (at : ℕ) (k s : List ℕ) → length s < n → verdict_f form n at k s ≡ Fine → Run form k s
+  Runs n = (at : ℕ) (k s : List ℕ) → length s < n → verdict_f form n at k s ≡ Ok tt → Run form k s
 
   runs_at : (n : ℕ) → Runs n → (at : ℕ) (k s : List ℕ) → length s < suc n → (f : Front) → front s ≡ f
-      → judge form at k f (verdict_f form n) ≡ Fine → Run form k s
+      → judge form at k f (verdict_f form n) ≡ Ok tt → Run form k s
   unfolding judge
   runs_at n ih at k s h end e q = rw (front_end s e) done
   runs_at n ih at k s h cut e q = bad≢fine q
@@ -110,11 +111,11 @@ module _ (form : Form) where
   runs (suc n) at k s h q = runs_at n (runs n) at k s h (front s) refl q
 
   -- what the check finds good is a good run
-  pub fine_run : (s : List ℕ) → verdict form s ≡ Fine → Run form (0 ∷ []) s
+  pub fine_run : (s : List ℕ) → verdict form s ≡ Ok tt → Run form (0 ∷ []) s
   unfolding verdict
   fine_run s q = runs (length s + 1) 0 (0 ∷ []) s (omega arith) q
 
-  run_fine : {k s : List ℕ} → Run form k s → (n at : ℕ) → length s < n → verdict_f form n at k s ≡ Fine
+  run_fine : {k s : List ℕ} → Run form k s → (n at : ℕ) → length s < n → verdict_f form n at k s ≡ Ok tt
   unfolding verdict_f judge front
   run_fine done zero at h = absurd (omega arith)
   run_fine done (suc n) at h = refl
@@ -124,7 +125,7 @@ module _ (form : Form) where
       rw (e, g, c, o) (run_fine r n (at + 3 + length b) (omega arith))
 
   -- and the other way round
-  pub run_verdict : (s : List ℕ) → Run form (0 ∷ []) s → verdict form s ≡ Fine
+  pub run_verdict : (s : List ℕ) → Run form (0 ∷ []) s → verdict form s ≡ Ok tt
   unfolding verdict
   run_verdict s r = run_fine r (length s + 1) 0 (omega arith)
 

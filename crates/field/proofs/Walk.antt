@@ -4,14 +4,13 @@ use mathlib.Core.Path.{◌≡◌}
 use mathlib.Core.List.{List, [], ◌∷◌}
 use mathlib.Core.Bool.{true}
 use lib.ListN.{drop}
-use Rattle.order.specs.declared.Ordering.TheVariants.{Less}
+use Rattle.std.specs.declared.cmp.Ordering.TheVariants.{Less}
 use Rattle.order.specs.Comparison.{bytes}
 use Rattle.number.specs.Bytes.{part}
 use Rattle.body.specs.declared.tag.Form.{Form}
 use Rattle.body.specs.Tag.{good_body, sensible, kind_of}
 use Rattle.field.specs.declared.head.Field.{Field}
 use Rattle.field.specs.declared.head.Field.TheVariants.{End, Cut, Whole}
-use Rattle.field.specs.declared.verdict.Verdict.TheVariants.{Fine}
 use Rattle.field.specs.Key.{key_of}
 use Rattle.field.specs.Verdict.{verdict}
 use Rattle.field.specs.Cells.{cells}
@@ -20,8 +19,9 @@ use Rattle.field.proofs.Fields.{end_at_lem, cut_at, whole_at}
 use Rattle.field.specs.Run.{Run}
 use Rattle.field.specs.Places.{GoodAt}
 use Rattle.field.proofs.Run.{fine_run, cells_at_end, cells_more, run_cut, run_whole}
+use Rattle.std.specs.Prelude.{Ok}
 
-pub good_start_lem : (form : Form) (s : List ℕ) → verdict form s ≡ Fine → GoodAt form s 0
+pub good_start_lem : (form : Form) (s : List ℕ) → verdict form s ≡ Ok tt → GoodAt form s 0
 good_start_lem form s e = record { before = 0 ∷ []; run = fine_run form s e }
 
 module _ (s : List ℕ) (at : ℕ) (r : Field) (f : r ≡ field_at s at) where

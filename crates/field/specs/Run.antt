@@ -1,6 +1,6 @@
 -- Good runs of fields.
 use Rattle.std.specs.Prelude.{ℕ, ◌≡◌, List, [], true}
-use Rattle.order.specs.declared.Ordering.TheVariants.{Less}
+use Rattle.std.specs.declared.cmp.Ordering.TheVariants.{Less}
 use Rattle.order.specs.Comparison.{bytes}
 use Rattle.body.specs.declared.tag.Form.{Form}
 use Rattle.body.specs.Tag.{good_body, sensible, kind_of}

@@ -5,6 +5,7 @@ ghost use Rattle.field.specs.Head.{field_at};
 use number::two_at;
 
 // What stands at a place of a run of fields.
+// Kept: three answers; the reader's `next` hands them to its callers.
 #[derive(Clone, Copy)]
 pub enum Field {
     // Nothing: the run's end.

@@ -4,10 +4,10 @@ ghost use Rattle.order.specs.Comparison.{bytes};
 ghost use Rattle.field.specs.Places.{key_in, key_place};
 
 use number::compare::compare;
-use number::lower;
-use order::Ordering;
+use std::cmp::Ordering;
 
 // The place of a key: the number of its kind, and where its bytes lie.
+// Kept: the kind is a number, since it is the first byte of a key (`key_in`) and keys are ordered by it; 0 stands below all.
 #[derive(Clone, Copy)]
 pub struct Key {
     pub kind: u8,
@@ -19,16 +19,12 @@ pub struct Key {
 pub fn key_at(kind: u8, from: usize, to: usize) -> Key
     ensures { result ≡ key_place kind from to }
 {
-    if kind == 3 {
-        if from < to {
-            if 4 < to - from {
-                return Key {
-                    kind,
-                    from,
-                    to: from + 4,
-                };
-            }
-        }
+    if kind == 3 && from < to && 4 < to - from {
+        return Key {
+            kind,
+            from,
+            to: from + 4,
+        };
     }
     Key { kind, from, to }
 }
@@ -45,9 +41,9 @@ pub fn key_compare(a: &[u8], x: Key, b: &[u8], y: Key) -> Ordering
     if q < p {
         return Ordering::Greater;
     }
-    let x_to = lower(x.to, a.len());
-    let x_from = lower(x.from, x_to);
-    let y_to = lower(y.to, b.len());
-    let y_from = lower(y.from, y_to);
+    let x_to = x.to.min(a.len());
+    let x_from = x.from.min(x_to);
+    let y_to = y.to.min(b.len());
+    let y_from = y.from.min(y_to);
     compare(&a[x_from..x_to], &b[y_from..y_to])
 }

@@ -7,8 +7,8 @@ use mathlib.Core.Bool.{Bool, true, false, not}
 use native.Mathlib.Omega.{arith}
 use borrow.Author.Tests.{not-true, not-false}
 use lib.ListN.{length, drop}
-use Rattle.order.specs.declared.Ordering.{Ordering}
-use Rattle.order.specs.declared.Ordering.TheVariants.{Less, Equal, Greater}
+use Rattle.std.specs.declared.cmp.Ordering.{Ordering}
+use Rattle.std.specs.declared.cmp.Ordering.TheVariants.{Greater}
 use Rattle.order.specs.Comparison.{bytes, flip}
 use Rattle.order.specs.Map.{Item, All, lookup, own, Below, Sorted}
 use Rattle.order.proofs.Never.{never}
@@ -30,14 +30,10 @@ use Rattle.item.specs.declared.place.Act.{Act}
 use Rattle.item.specs.declared.place.Act.TheVariants.{Announce, Withdraw, Update}
 use Rattle.item.specs.declared.place.Entry.{Entry}
 use Rattle.item.specs.declared.reading.Reading.TheVariants.{Announced, Changes}
-use Rattle.item.specs.declared.reading.Read as places
-use Rattle.item.specs.declared.reading.Read.TheVariants.{End, One}
 use Rattle.turn.specs.declared.turn.Side.{Side}
 use Rattle.turn.specs.declared.turn.Side.TheVariants as side
 use Rattle.turn.specs.declared.turn.Turn.{Turn}
 use Rattle.turn.specs.declared.turn.Turn.TheVariants.{Over, Left, Right, Both}
-use Rattle.fit.specs.declared.Fit.{Fit}
-use Rattle.fit.specs.declared.Fit.TheVariants as fit
 use Rattle.item.specs.Place.{part_in, change_in, item_in, PartFits, ActFits}
 use Rattle.item.specs.Reading.{read_as, Ready, FieldIs, Reads}
 use Rattle.item.specs.Front.{front_key}
@@ -49,20 +45,10 @@ use Rattle.turn.specs.Turn.{TurnIs, TurnMeans}
 use Rattle.fit.specs.Fit.{misfit, fit_of}
 use Rattle.fit.specs.Fitting.{absent_place, value_place, Pairs, Onward, Past, FitStepMeans, FitStepIs}
 use Rattle.item.proofs.Sinking.{fits_withdraw, fits_former}
+use Rattle.std.specs.Prelude as opt
+use Rattle.std.specs.Prelude.{None, Some}
 
 -- ---- the small functions
-
-module _ (a : Bytes) (p : Part) (b : Bytes) (q : Part) (o : Ordering) (c : o ≡ bytes (part_in a p) (part_in b q)) where
-  pub equal_less : o ≡ Less → false ≡ is_equal (bytes (part_in a p) (part_in b q))
-  equal_less d = rw (← c, d)
-
-  pub equal_same : o ≡ Equal → true ≡ is_equal (bytes (part_in a p) (part_in b q))
-  equal_same d = rw (← c, d)
-
-  pub equal_greater : o ≡ Greater → false ≡ is_equal (bytes (part_in a p) (part_in b q))
-  equal_greater d = rw (← c, d)
-
-pub ruleset equals = (equal_less, equal_same, equal_greater)
 
 module _ (v b : Bytes) (act : Act) where
   pub held_announce : (n : Part) → act ≡ Announce n → false ≡ fits bytes (some v) (change_in b b act)
@@ -78,14 +64,14 @@ pub ruleset held = (fits_withdraw, fits_former, held_announce, held_withdraw, he
 
 -- ---- the first misfit, field by field
 
-misfit_nil : (A : change.Snapshot Bytes Bytes) (at : ℕ) → misfit A at [] ≡ fit.All
+misfit_nil : (A : change.Snapshot Bytes Bytes) (at : ℕ) → misfit A at [] ≡ None
 unfolding misfit
 misfit_nil A at = refl
 
 abbrev fits_in : change.Snapshot Bytes Bytes → Cell → Bool
 fits_in A c = fits bytes (lookup bytes (entry_of form.Delta c).key A) (entry_of form.Delta c).val
 
-misfit_here : (A : change.Snapshot Bytes Bytes) (at : ℕ) (c : Cell) (cs : List Cell) → fits_in A c ≡ false → misfit A at (c ∷ cs) ≡ fit.Misfit at
+misfit_here : (A : change.Snapshot Bytes Bytes) (at : ℕ) (c : Cell) (cs : List Cell) → fits_in A c ≡ false → misfit A at (c ∷ cs) ≡ Some at
 unfolding misfit
 misfit_here A at c cs e = rw e
 
@@ -126,7 +112,7 @@ absent_fits b (Withdraw p) = refl
 absent_fits b (Update p n) = refl
 
 -- the delta at j
-module _ (d : Bytes) (j : ℕ) (y : Entry) (r : Reads Changes d j (One y)) where
+module _ (d : Bytes) (j : ℕ) (y : Entry) (r : Reads Changes d j (Some y)) where
   abbrev F : FieldIs Changes d j y
   F = r.fits.field
 
@@ -140,7 +126,7 @@ module _ (d : Bytes) (j : ℕ) (y : Entry) (r : Reads Changes d j (One y)) where
     here : fits_in A F.cell ≡ t
     here = rw (← key_is, ← val_is, l) (sym e)
 
-    stops : not t ≡ true → misfit A j (cells (drop j d)) ≡ fit.Misfit j
+    stops : not t ≡ true → misfit A j (cells (drop j d)) ≡ Some j
     stops h = ap (misfit A j) F.front ∙ misfit_here A j F.cell (cells (drop y.next d)) (here ∙ not-true t h)
 
     goes_on : not t ≡ false → misfit A j (cells (drop j d)) ≡ misfit A y.next (cells (drop y.next d))
@@ -148,7 +134,7 @@ module _ (d : Bytes) (j : ℕ) (y : Entry) (r : Reads Changes d j (One y)) where
         ap (misfit A j) F.front ∙ misfit_on A j F.cell (cells (drop y.next d)) (here ∙ not-false t h)
         ∙ ap (λ (n : ℕ). misfit A n (cells (drop y.next d))) (sym F.next)
 
-ended : (d : Bytes) (j : ℕ) (r : Reads Changes d j End) (A : change.Snapshot Bytes Bytes) → misfit A j (cells (drop j d)) ≡ fit.All
+ended : (d : Bytes) (j : ℕ) (r : Reads Changes d j None) (A : change.Snapshot Bytes Bytes) → misfit A j (cells (drop j d)) ≡ None
 ended d j r A = ap (misfit A j) r.fits ∙ misfit_nil A j
 
 -- ---- fit_rest
@@ -160,21 +146,21 @@ pub record Resting (d : Bytes) (from at : ℕ) : Type 0 where
 pub rest_start : (d : Bytes) (from : ℕ) → Ready Changes d from → Resting d from from
 rest_start d from r = record { ready = r; left = refl }
 
-module _ (d : Bytes) (from at : ℕ) (h : Resting d from at) (r : places.Read) (e : Reads Changes d at r) where
-  pub rest_end : r ≡ End → fit.All ≡ misfit [] from (cells (drop from d))
+module _ (d : Bytes) (from at : ℕ) (h : Resting d from at) (r : opt.Option Entry) (e : Reads Changes d at r) where
+  pub rest_end : r ≡ None → None ≡ misfit [] from (cells (drop from d))
   rest_end q = sym (ended d at (rw q at e) []) ∙ h.left
 
-  module _ (y : Entry) (q : r ≡ One y) (t : Bool) (f : t ≡ absent_place y.act) where
-    one : Reads Changes d at (One y)
+  module _ (y : Entry) (q : r ≡ Some y) (t : Bool) (f : t ≡ absent_place y.act) where
+    one : Reads Changes d at (Some y)
     one = rw q at e
 
-    pub rest_misfit : not t ≡ true → fit.Misfit at ≡ misfit [] from (cells (drop from d))
+    pub rest_misfit : not t ≡ true → Some at ≡ misfit [] from (cells (drop from d))
     rest_misfit z = sym (stops d at y one [] none refl t (f ∙ absent_fits d y.act) z) ∙ h.left
 
     pub rest_again : not t ≡ false → Resting d from y.next
     rest_again z = record { ready = one.fits.ready; left = sym (goes_on d at y one [] none refl t (f ∙ absent_fits d y.act) z) ∙ h.left }
 
-  pub rest_less : (y : Entry) → r ≡ One y → length d - y.next < length d - at
+  pub rest_less : (y : Entry) → r ≡ Some y → length d - y.next < length d - at
   rest_less y q = let f = (rw q at e.fits) in omega (arith, f.ahead, f.ready.within)
 
 pub ruleset resting = (rest_start, rest_end, rest_misfit, rest_again, rest_less)
@@ -213,7 +199,7 @@ value_fits s (Withdraw p) v f e = rw e f.parts
 value_fits s (Update p n) v f e = rw e f.parts.1
 
 -- the snapshot at i
-module _ (s : Bytes) (i : ℕ) (x : Entry) (r : Reads Announced s i (One x)) where
+module _ (s : Bytes) (i : ℕ) (x : Entry) (r : Reads Announced s i (Some x)) where
   abbrev G : FieldIs Announced s i x
   G = r.fits.field
 
@@ -280,7 +266,7 @@ module _ (s : Bytes) (i : ℕ) (d : Bytes) (j : ℕ) (m : Pairs s i d j) (t : Tu
       go side.Right z = no_items (drop i s) z
 
   module _ (x : Entry) (q : t ≡ Left x) where
-    left_read : Reads Announced s i (One x)
+    left_read : Reads Announced s i (Some x)
     left_read = (rw q at h.is).0
 
     pub pass_held : FitStepIs s i d j (fit-step.On x.next j)
@@ -303,7 +289,7 @@ module _ (s : Bytes) (i : ℕ) (d : Bytes) (j : ℕ) (m : Pairs s i d j) (t : Tu
         }
 
   module _ (y : Entry) (q : t ≡ Right y) (r : Bool) (f : r ≡ absent_place y.act) where
-    right_read : Reads Changes d j (One y)
+    right_read : Reads Changes d j (Some y)
     right_read = (rw q at h.is).0
 
     not_held : lookup bytes (key_in d y.key) (items (drop i s)) ≡ none
@@ -328,10 +314,10 @@ module _ (s : Bytes) (i : ℕ) (d : Bytes) (j : ℕ) (m : Pairs s i d j) (t : Tu
         }
 
   module _ (x y : Entry) (q : t ≡ Both x y) where
-    read_s : Reads Announced s i (One x)
+    read_s : Reads Announced s i (Some x)
     read_s = (rw q at h.is).0
 
-    read_d : Reads Changes d j (One y)
+    read_d : Reads Changes d j (Some y)
     read_d = (rw q at h.is).1
 
     pub both_value : (v : Part) → v ≡ value_place x.act → PartFits s v
@@ -428,17 +414,17 @@ module _ (s d : Bytes) (i j : ℕ) (m : Fitting s d i j) where
 
   module _ (t : FitStep) (h : FitStepIs s i d j t) where
     module _ (w : Side) (q : t ≡ fit-step.Over w) where
-      pub fits_all : w ≡ side.Left → fit.All ≡ fit_of s d
+      pub fits_all : w ≡ side.Left → None ≡ fit_of s d
       fits_all e =
           let z : changes (drop j d) ≡ [] = rw (q, e) at h.is in
           sym (ap (misfit (items (drop i s)) j) (no_cells (drop j d) z) ∙ misfit_nil (items (drop i s)) j) ∙ m.left
 
-      pub fits_rest : w ≡ side.Right → (r : Fit) → r ≡ misfit [] j (cells (drop j d)) → r ≡ fit_of s d
+      pub fits_rest : w ≡ side.Right → (r : opt.Option ℕ) → r ≡ misfit [] j (cells (drop j d)) → r ≡ fit_of s d
       fits_rest e r f =
           let z : items (drop i s) ≡ [] = rw (q, e) at h.is in
           f ∙ ap (λ (A : change.Snapshot Bytes Bytes). misfit A j (cells (drop j d))) (sym z) ∙ m.left
 
-    pub fits_not : t ≡ fit-step.Misfit → fit.Misfit j ≡ fit_of s d
+    pub fits_not : t ≡ fit-step.Misfit → Some j ≡ fit_of s d
     fits_not q = sym (rw q at h.is) ∙ m.left
 
     module _ (p q : ℕ) (e : t ≡ fit-step.On p q) where

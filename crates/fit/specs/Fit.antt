@@ -1,5 +1,5 @@
 -- The first item of a delta that cannot be applied, by its offset.
-use Rattle.std.specs.Prelude.{ℕ, ◌+◌, List, [], ◌∷◌, cond, length}
+use Rattle.std.specs.Prelude.{ℕ, ◌+◌, List, [], ◌∷◌, cond, length, None, Option, Some}
 use Rattle.order.specs.Comparison.{bytes}
 use Rattle.order.specs.Map.{lookup}
 use Rattle.change.specs.Difference.{Snapshot}
@@ -8,16 +8,14 @@ use Rattle.body.specs.declared.tag.Form.TheVariants.{Delta}
 use Rattle.field.specs.Cells.{Cell, cells}
 use Rattle.payload.specs.Content.{Bytes, entry_of}
 use Rattle.payload.specs.Payload.{items}
-use Rattle.fit.specs.declared.Fit.{Fit}
-use Rattle.fit.specs.declared.Fit.TheVariants.{All, Misfit}
 
 -- of fields of which the first stands at `at`
-unfoldable pub misfit : Snapshot Bytes Bytes → ℕ → List Cell → Fit
-misfit A at [] = All
+unfoldable pub misfit : Snapshot Bytes Bytes → ℕ → List Cell → Option ℕ
+misfit A at [] = None
 misfit A at (c ∷ cs) =
     cond (fits bytes (lookup bytes (entry_of Delta c).key A) (entry_of Delta c).val)
     (misfit A (at + 3 + length c.body) cs)
-    (Misfit at)
+    (Some at)
 
-abbrev pub fit_of : Bytes → Bytes → Fit
+abbrev pub fit_of : Bytes → Bytes → Option ℕ
 fit_of snapshot delta = misfit (items snapshot) 0 (cells delta)

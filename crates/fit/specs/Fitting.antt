@@ -1,5 +1,5 @@
 -- How far the search for the first misfit has come.
-use Rattle.std.specs.Prelude.{ℕ, ◌+◌, ◌≤◌, ◌<◌, ◌≡◌, [], Bool, true, false, drop}
+use Rattle.std.specs.Prelude.{ℕ, ◌+◌, ◌≤◌, ◌<◌, ◌≡◌, [], Bool, true, false, drop, Some}
 use Rattle.field.specs.Cells.{cells}
 use Rattle.payload.specs.Content.{Bytes}
 use Rattle.payload.specs.Payload.{items, changes}
@@ -8,7 +8,6 @@ use Rattle.item.specs.declared.place.Act.{Act}
 use Rattle.item.specs.declared.place.Act.TheVariants as act
 use Rattle.item.specs.declared.reading.Reading.TheVariants.{Announced, Changes}
 use Rattle.item.specs.Reading.{Ready}
-use Rattle.fit.specs.declared.Fit.TheVariants.{Misfit}
 use Rattle.fit.specs.declared.FitStep.{FitStep}
 use Rattle.fit.specs.declared.FitStep.TheVariants as step
 use Rattle.fit.specs.declared.FitStep.TheVariants.{Over, On}
@@ -47,7 +46,7 @@ module _ (s : Bytes) (i : ℕ) (d : Bytes) (j : ℕ) where
   abbrev pub FitStepMeans : FitStep → Type 0
   FitStepMeans (Over side.Left) = changes (drop j d) ≡ []
   FitStepMeans (Over side.Right) = items (drop i s) ≡ []
-  FitStepMeans step.Misfit = misfit (items (drop i s)) j (cells (drop j d)) ≡ Misfit j
+  FitStepMeans step.Misfit = misfit (items (drop i s)) j (cells (drop j d)) ≡ Some j
   FitStepMeans (On p q) = Onward s i d j p q × (i + j < p + q)
 
   pub record FitStepIs (r : FitStep) : Type 0 where

@@ -12,17 +12,10 @@ ghost use Rattle.fit.specs.Fit.{misfit, fit_of};
 ghost use Rattle.fit.specs.Fitting.{absent_place, value_place, Pairs, Past, FitStepIs};
 
 use item::place::{Act, Part};
-use item::reading::{Read, Reading, read_at};
+use item::reading::{Reading, Run, read_at};
 use number::compare::compare;
-use order::Ordering;
 use turn::seek::{bound_at, seek};
 use turn::turn::{Side, Turn, take_turn};
-
-#[derive(Clone, Copy)]
-pub enum Fit {
-    All,
-    Misfit { at: usize },
-}
 
 // Whether two values are equal.
 fn equal(a: &[u8], p: Part, b: &[u8], q: Part) -> bool
@@ -33,22 +26,14 @@ fn equal(a: &[u8], p: Part, b: &[u8], q: Part) -> bool
     let p_to = p.to;
     let q_from = q.from;
     let q_to = q.to;
-    match compare(&a[p_from..p_to], &b[q_from..q_to]) {
-        Ordering::Less => false,
-        Ordering::Equal => true,
-        Ordering::Greater => false,
-    }
+    compare(&a[p_from..p_to], &b[q_from..q_to]).is_eq()
 }
 
 // Whether a change fits where nothing is held.
 fn fits_absent(change: Act) -> bool
     ensures { result ≡ absent_place change }
 {
-    match change {
-        Act::Announce(_) => true,
-        Act::Withdraw(_) => false,
-        Act::Update(_, _) => false,
-    }
+    matches!(change, Act::Announce(_))
 }
 
 // The value that a change leaves or takes away.
@@ -56,9 +41,8 @@ fn value_of(act: Act) -> Part
     ensures { result ≡ value_place act }
 {
     match act {
-        Act::Announce(n) => n,
+        Act::Announce(n) | Act::Update(_, n) => n,
         Act::Withdraw(p) => p,
-        Act::Update(_, n) => n,
     }
 }
 
@@ -69,27 +53,23 @@ fn fits_held(a: &[u8], v: Part, b: &[u8], change: Act) -> bool
 {
     match change {
         Act::Announce(_) => false,
-        Act::Withdraw(p) => equal(a, v, b, p),
-        Act::Update(p, _) => equal(a, v, b, p),
+        Act::Withdraw(p) | Act::Update(p, _) => equal(a, v, b, p),
     }
 }
 
 // The rest of a delta where nothing more is held: the first item that does not announce.
-fn fit_rest(delta: &[u8], from: usize) -> Fit
+fn fit_rest(delta: &[u8], from: usize) -> Option<usize>
     requires { Ready Reading.Changes delta.now from }
     ensures { result ≡ misfit [] from (cells (drop from delta.now)) }
 {
     let mut at = from;
-    loop {
-        let Read::One(y) = read_at(Reading::Changes, delta, at) else {
-            return Fit::All;
-        };
-        let change = y.act;
-        if !fits_absent(change) {
-            return Fit::Misfit { at };
+    while let Some(y) = read_at(Reading::Changes, delta, at) {
+        if !fits_absent(y.act) {
+            return Some(at);
         }
         at = y.next;
     }
+    None
 }
 
 // Past what the snapshot has from i on below the delta's item at j.
@@ -102,6 +82,7 @@ fn pass_below(snapshot: &[u8], i: usize, delta: &[u8], j: usize) -> usize
 }
 
 // Where the comparison stands after a turn.
+// Kept: three answers; a `ControlFlow` that breaks with a side or a misfit would nest two enums.
 #[derive(Clone, Copy)]
 pub enum FitStep {
     // One side has run out; this one may still have fields.
@@ -117,7 +98,15 @@ fn fit_turn(snapshot: &[u8], i: usize, delta: &[u8], j: usize) -> FitStep
     requires { Pairs snapshot.now i delta.now j }
     ensures { FitStepIs snapshot.now i delta.now j result }
 {
-    match take_turn(Reading::Announced, snapshot, i, Reading::Changes, delta, j) {
+    let held = Run {
+        reading: Reading::Announced,
+        bytes: snapshot,
+    };
+    let changes = Run {
+        reading: Reading::Changes,
+        bytes: delta,
+    };
+    match take_turn(held, i, changes, j) {
         Turn::Over(side) => FitStep::Over(side),
         Turn::Left(x) => FitStep::On(x.next, j),
         Turn::Right(y) => {
@@ -150,8 +139,8 @@ fn fit_step(snapshot: &[u8], i: usize, delta: &[u8], j: usize) -> FitStep
     }
 }
 
-// The first item of a good delta that cannot be applied to a good snapshot.
-pub fn first_misfit(snapshot: &[u8], delta: &[u8]) -> Fit
+// The place of the first item of a good delta that cannot be applied to a good snapshot, if there is one.
+pub fn first_misfit(snapshot: &[u8], delta: &[u8]) -> Option<usize>
     requires { Pairs snapshot.now 0 delta.now 0 }
     ensures { result ≡ fit_of snapshot.now delta.now }
 {
@@ -160,7 +149,7 @@ pub fn first_misfit(snapshot: &[u8], delta: &[u8]) -> Fit
     let side = loop {
         match fit_step(snapshot, i, delta, j) {
             FitStep::Over(side) => break side,
-            FitStep::Misfit => return Fit::Misfit { at: j },
+            FitStep::Misfit => return Some(j),
             FitStep::On(p, q) => {
                 i = p;
                 j = q;
@@ -168,7 +157,7 @@ pub fn first_misfit(snapshot: &[u8], delta: &[u8]) -> Fit
         }
     };
     if let Side::Left = side {
-        return Fit::All;
+        return None;
     }
     fit_rest(delta, j)
 }

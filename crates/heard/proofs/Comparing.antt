@@ -5,12 +5,13 @@ use mathlib.Core.List.{[], ◌∷◌, ◌++◌}
 use mathlib.Core.Bool.{Bool, true, false, cond}
 use native.Mathlib.Omega.{arith}
 use native.Mathlib.Decide.{ℕ_discrete, dec_le}
-use borrow.Author.Tests.{eq-eqb, ne_eqb}
 use lib.Dec.{eqb, ltb}
 use lib.ListN.{length, get_or, drop, replicate, drop_of_length-le}
 use lib.Seq.{get_or-drop, drop-drop}
-use Rattle.order.specs.declared.Ordering.{Ordering}
-use Rattle.order.specs.declared.Ordering.TheVariants.{Less, Equal, Greater}
+use Rattle.std.specs.declared.cmp.Ordering.{Ordering}
+use Rattle.std.specs.declared.cmp.Ordering.TheVariants.{Less, Equal, Greater}
+use Rattle.std.specs.Ordering.{MatchOrdering, nat_cmp, is_eq}
+use Rattle.std.proofs.lemmas.Cmp.{ranked}
 use Rattle.order.specs.Comparison.{or_else, number, bytes}
 use Rattle.order.proofs.Comparison.{number_less, number_equal, number_greater}
 use Rattle.change.specs.Application.{is_equal}
@@ -21,25 +22,11 @@ use Rattle.number.proofs.Numbers.{four_lt, low_half, high_half}
 use Rattle.payload.specs.Content.{Bytes}
 use Rattle.item.specs.Front.{packs, front_key}
 use Rattle.item.proofs.Fronts.{front_less, front_greater}
-use Rattle.heard.specs.Place.{type_at, size_at, key_at, Sized, v4, v6, key, Payload, before, precedes}
+use Rattle.heard.specs.Place.{type_at, size_at, key_at, Sized, v4, v6, key, Payload, precedes}
 use Rattle.heard.specs.Compare.{Of, Fronted, FrontOf, Alike}
 use Rattle.heard.proofs.Keys.{byte_at, word_from, four_from, four_key, four_key_lem, six_key, six_key_lem, router_key_lem}
 use Rattle.heard.proofs.Places.{least, long, third, size_least}
 use Rattle.heard.proofs.Fronts.{front_four, front_six, front_key_lem}
-
--- ---- is_below
-
-module _ (p q : ℕ) (b : Bool) where
-  pub below_less : p < q → true ≡ before (number p q) b
-  below_less h = rw (number_less p q h)
-
-  pub below_greater : q < p → false ≡ before (number p q) b
-  below_greater h = rw (number_greater p q h)
-
-  pub below_equal : q ≤ p → p ≤ q → b ≡ before (number p q) b
-  below_equal h k = rw (number_equal p q (omega arith))
-
-pub ruleset below = (below_less, below_greater, below_equal)
 
 -- equal numbers
 data Compared (p q : ℕ) : Type 0 where
@@ -55,13 +42,19 @@ data Compared (p q : ℕ) : Type 0 where
     go (no n) (yes h) = lt (omega arith)
     go (no n) (no h) = gt (omega arith)
 
-same_number : (p q : ℕ) → is_equal (number p q) ≡ eqb p q
-same_number p q = go (ℕ_compare p q)
+-- std's order of numbers
+number_is : (p q : ℕ) → nat_cmp p q ≡ number p q
+number_is p q = go (nat_cmp p q) (ranked p q (nat_cmp p q) refl)
   where
-    go : Compared p q → is_equal (number p q) ≡ eqb p q
-    go (lt h) = rw (number_less p q h, ne_eqb p q (λ e. omega arith))
-    go (eq e) = rw (number_equal p q e, eq-eqb p q e)
-    go (gt h) = rw (number_greater p q h, ne_eqb p q (λ e. omega arith))
+    go : (r : Ordering) → MatchOrdering r (p < q) (p ≡ q) (q < p) → r ≡ number p q
+    go Less h = sym (number_less p q h)
+    go Equal h = sym (number_equal p q h)
+    go Greater h = sym (number_greater p q h)
+
+equal_is : (r : Ordering) → is_eq r ≡ is_equal r
+equal_is Less = refl
+equal_is Equal = refl
+equal_is Greater = refl
 
 -- ---- four_last, six_last
 
@@ -100,9 +93,6 @@ module _ (s : Bytes) (at : ℕ) (o : Octets s) where
     pub six_third : at + 24 + 8 ≤ length s
     six_third = omega (arith, six_long f)
 
-    pub six_middle_in : at + 18 + 8 ≤ length s
-    six_middle_in = omega (arith, six_long f)
-
     six_middle : word_at s (at + 18) ≡ word_at (key_at s at) 8
     unfolding word_at
     six_middle = rw (six_key_lem s at f.type (six_long f)) (word_from s at 18)
@@ -116,11 +106,6 @@ module _ (s : Bytes) (at : ℕ) (o : Octets s) where
         let h : word_at s (at + 24) / 4_294_967_296 % 65_536 ≡ byte_at s at 26 * 256 + byte_at s at 27 = rw (high_half s o (at + 24), four_from s at 24) (omega (arith, (o (at + 26)).fits, (o (at + 27)).fits)) in
         let k : word_at (six_key (byte_at s at)) 16 ≡ ((byte_at s at 26 * 256 + byte_at s at 27) * 65_536 + (byte_at s at 9 * 256 + byte_at s at 10)) * 4_294_967_296 + four (byte_at s at 28) (byte_at s at 29) (byte_at s at 30) (byte_at s at 31) = omega arith in
         rw (d, e, six_key_lem s at f.type (six_long f), k, lengths_at, g, h)
-
-pub middle_in : (s : Bytes) (at : ℕ) → Of s 6 at → at + 18 + 8 ≤ length s
-middle_in s at f = let n : at + 32 ≤ length s = long s at f.payload (λ h. let z : ◌≡◌ {A = ℕ} 4 6 = sym h ∙ f.type in omega arith) in omega (arith, n)
-
-pub ruleset middles = (middle_in)
 
 pub ruleset lasts = (four_second, four_third, four_last_is, six_second, six_third, six_last_is)
 
@@ -219,12 +204,6 @@ module _ (s : Bytes) (o : Octets s) (x y : ℕ) where
     pub alike_other : Of s 6 y
     alike_other = a.other
 
-    pub six_x : x + 18 + 8 ≤ length s
-    six_x = six_middle_in s x o a.one
-
-    pub six_y : y + 18 + 8 ≤ length s
-    six_y = six_middle_in s y o a.other
-
     six_decide : bytes (key_at s x) (key_at s y) ≡ or_else (number (word_at s (x + 18)) (word_at s (y + 18))) (number (word_at (key_at s x) 16) (word_at (key_at s y) 16))
     six_decide =
         let m : length (key_at s x) ≡ 24 = rw (six_key_lem s x a.one.type (six_long s x o a.one)) in
@@ -235,34 +214,28 @@ module _ (s : Bytes) (o : Octets s) (x y : ℕ) where
       read : bytes (key_at s x) (key_at s y) ≡ or_else (number p q) (number (word_at (key_at s x) 16) (word_at (key_at s y) 16))
       read = rw (d, e) six_decide
 
-      pub six_less : p < q → true ≡ precedes s x y
+      pub six_before : p < q → true ≡ precedes s x y
       unfolding precedes
-      six_less h = let e : bytes (key_at s x) (key_at s y) ≡ Less = read ∙ rw (number_less p q h) in rw e
+      six_before h = let e : bytes (key_at s x) (key_at s y) ≡ Less = read ∙ rw (number_less p q h) in rw e
 
-      pub six_greater : q < p → false ≡ precedes s x y
+      pub six_behind : q < p → false ≡ precedes s x y
       unfolding precedes
-      six_greater h = let e : bytes (key_at s x) (key_at s y) ≡ Greater = read ∙ rw (number_greater p q h) in rw e
+      six_behind h = let e : bytes (key_at s x) (key_at s y) ≡ Greater = read ∙ rw (number_greater p q h) in rw e
 
-      module _ (u w : ℕ) (f : u ≡ word_at (key_at s x) 16) (g : w ≡ word_at (key_at s y) 16) where
-        six_last : p ≡ q → bytes (key_at s x) (key_at s y) ≡ number u w
-        six_last h = rw (f, g) (read ∙ rw (number_equal p q h))
+      module _ (r : Ordering) (f : r ≡ nat_cmp p q) where
+        told : r ≡ number p q
+        told = f ∙ number_is p q
 
-        pub six_rest : q ≤ p → p ≤ q → (r : Bool) → r ≡ before (number u w) (ltb x y) → r ≡ precedes s x y
-        unfolding precedes
-        six_rest h k r e = e ∙ ap (λ (o : Ordering). before o (ltb x y)) (sym (six_last (omega arith)))
+        pub six_less : r ≡ Less → Less ≡ bytes (key_at s x) (key_at s y)
+        six_less h = let z : number p q ≡ Less = sym told ∙ h in sym (read ∙ rw z)
 
-        pub six_same : p ≡ q → eqb u w ≡ is_equal (bytes (key_at s x) (key_at s y))
-        six_same h = sym (ap is_equal (six_last h) ∙ same_number u w)
+        pub six_greater : r ≡ Greater → Greater ≡ bytes (key_at s x) (key_at s y)
+        six_greater h = let z : number p q ≡ Greater = sym told ∙ h in sym (read ∙ rw z)
 
-      pub six_other : (p ≡ q → ⊥) → false ≡ is_equal (bytes (key_at s x) (key_at s y))
-      six_other n = go (ℕ_compare p q)
-        where
-          go : Compared p q → false ≡ is_equal (bytes (key_at s x) (key_at s y))
-          go (lt h) = let e : bytes (key_at s x) (key_at s y) ≡ Less = read ∙ rw (number_less p q h) in rw e
-          go (eq e) = absurd (n e)
-          go (gt h) = let e : bytes (key_at s x) (key_at s y) ≡ Greater = read ∙ rw (number_greater p q h) in rw e
+        pub six_rest : r ≡ Equal → (u w : ℕ) → u ≡ word_at (key_at s x) 16 → w ≡ word_at (key_at s y) 16 → (t : Ordering) → t ≡ nat_cmp u w → t ≡ bytes (key_at s x) (key_at s y)
+        six_rest h u w g k t m = let z : number p q ≡ Equal = sym told ∙ h in m ∙ number_is u w ∙ rw (g, k) (sym (read ∙ rw z))
 
-pub ruleset sixes = (alike_one, alike_other, six_x, six_y, six_less, six_greater, six_rest, six_same, six_other)
+pub ruleset sixes = (alike_one, alike_other, six_less, six_greater, six_rest)
 
 module _ (s : Bytes) (x y : ℕ) where
   module _ (a : Alike s 9 x y) where
@@ -362,14 +335,10 @@ module _ (s : Bytes) (o : Octets s) (x y : ℕ) (f : Fronted s x y) where
           let q : word_at (key_at s y) 8 ≡ 0 = rw j in
           rw (g, h) (prefixes s o x y m n f.front ∙ rw (p, q))
 
-      pub four_before : (r : Bool) → r ≡ before (number u w) (ltb x y) → r ≡ precedes s x y
-      unfolding precedes
-      four_before r d = d ∙ ap (λ (z : Ordering). before z (ltb x y)) (sym four_last)
+      pub four_compare : (r : Ordering) → r ≡ nat_cmp u w → r ≡ bytes (key_at s x) (key_at s y)
+      four_compare r f = f ∙ number_is u w ∙ sym four_last
 
-      pub four_same : eqb u w ≡ is_equal (bytes (key_at s x) (key_at s y))
-      four_same = sym (ap is_equal four_last ∙ same_number u w)
-
-pub ruleset behinds = (behind_one, behind_four, behind_four_2, behind_six, behind_keys, four_before, four_same)
+pub ruleset behinds = (behind_one, behind_four, behind_four_2, behind_six, behind_keys, four_compare)
 
 -- ---- is_before, same_record
 
@@ -386,14 +355,8 @@ module _ (s : Bytes) (x y : ℕ) (r : Ordering) (e : r ≡ bytes (key_at s x) (k
   unfolding precedes
   before_greater f = rw (sym e ∙ f)
 
-  pub same_less : r ≡ Less → false ≡ is_equal (bytes (key_at s x) (key_at s y))
-  same_less f = rw (sym e ∙ f)
-
-  pub same_equal : r ≡ Equal → true ≡ is_equal (bytes (key_at s x) (key_at s y))
-  same_equal f = rw (sym e ∙ f)
-
-  pub same_greater : r ≡ Greater → false ≡ is_equal (bytes (key_at s x) (key_at s y))
-  same_greater f = rw (sym e ∙ f)
+  pub same_is : (b : Bool) → b ≡ is_eq r → b ≡ is_equal (bytes (key_at s x) (key_at s y))
+  same_is b f = f ∙ equal_is r ∙ ap is_equal e
 
 module _ (s : Bytes) (o : Octets s) (x y : ℕ) (a : Payload s x) (b : Payload s y) (p q : ℕ) (d : p ≡ front_key (key_at s x)) (e : q ≡ front_key (key_at s y)) where
   pub fronts_less : p < q → Less ≡ bytes (key_at s x) (key_at s y)
@@ -402,20 +365,22 @@ module _ (s : Bytes) (o : Octets s) (x y : ℕ) (a : Payload s x) (b : Payload s
   pub fronts_greater : q < p → Greater ≡ bytes (key_at s x) (key_at s y)
   fronts_greater h = sym (front_greater (key_at s x) (key_at s y) (λ i. (key_octets s x o i).fits) (omega arith))
 
-  pub fronts_same : q ≤ p → p ≤ q → Fronted s x y
-  fronts_same h k = record { one = a; other = b; front = omega arith }
-
   pub front_before : p < q → true ≡ precedes s x y
   front_before h = before_less s x y Less (fronts_less h) refl
 
   pub front_behind : q < p → false ≡ precedes s x y
   front_behind h = before_greater s x y Greater (fronts_greater h) refl
 
-  pub front_other : p < q → false ≡ is_equal (bytes (key_at s x) (key_at s y))
-  front_other h = same_less s x y Less (fronts_less h) refl
+  pub fronts_same : p ≡ q → Fronted s x y
+  fronts_same h = record { one = a; other = b; front = omega arith }
 
-  pub front_other_2 : q < p → false ≡ is_equal (bytes (key_at s x) (key_at s y))
-  front_other_2 h = same_greater s x y Greater (fronts_greater h) refl
+  pub fronts_other : (p ≡ q → ⊥) → false ≡ is_equal (bytes (key_at s x) (key_at s y))
+  fronts_other n = go (ℕ_compare p q)
+    where
+      go : Compared p q → false ≡ is_equal (bytes (key_at s x) (key_at s y))
+      go (lt h) = ap is_equal (fronts_less h)
+      go (eq h) = absurd (n h)
+      go (gt h) = ap is_equal (fronts_greater h)
 
 module _ (s : Bytes) (o : Octets s) (p x q y : ℕ) (a : FrontOf s p x) (b : FrontOf s q y) where
   pub by_before : p < q → true ≡ precedes s x y
@@ -425,11 +390,13 @@ module _ (s : Bytes) (o : Octets s) (p x q y : ℕ) (a : FrontOf s p x) (b : Fro
   by_behind = front_behind s o x y a.payload b.payload p q a.is b.is
 
   pub by_same : q ≤ p → p ≤ q → Fronted s x y
-  by_same = fronts_same s o x y a.payload b.payload p q a.is b.is
+  by_same h k = fronts_same s o x y a.payload b.payload p q a.is b.is (omega arith)
 
 pub front_of_lem : (s : Bytes) (p x : ℕ) → Payload s x → p ≡ front_key (key_at s x) → FrontOf s p x
 front_of_lem s p x a e = record { payload = a; is = e }
 
+pub ruleset orders = (before_less, before_equal, before_greater)
+
 pub ruleset by_fronts = (by_before, by_behind, by_same, front_of_lem)
 
-pub ruleset comparing = (front_before, front_behind, front_other, front_other_2, fronts_same, before_less, before_equal, before_greater, same_less, same_equal, same_greater)
+pub ruleset comparing = (fronts_same, fronts_other, same_is)

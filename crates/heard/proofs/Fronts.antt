@@ -3,7 +3,6 @@ use Prim.Native.Nat.{ℕ, ◌+◌, ◌-◌, ◌*◌, ◌/◌, ◌<◌, ◌≤◌
 use mathlib.Core.Path.{◌≡◌, sym, ◌∙◌}
 use mathlib.Core.Bool.{true, cond}
 use native.Mathlib.Omega.{arith}
-use borrow.Author.Tests.{ne_eqb}
 use lib.Dec.{eqb}
 use lib.ListN.{length, take, drop, length-drop}
 use lib.Seq.{length-take-le}
@@ -20,15 +19,6 @@ use Rattle.item.proofs.Fronts.{front_here}
 use Rattle.heard.specs.Place.{type_at, size_at, key_at, Sized, v4, v6, key, Payload}
 use Rattle.heard.proofs.Keys.{byte_at, word_from, four_from, four_key_lem, six_key_lem, router_key_lem}
 use Rattle.heard.proofs.Places.{least, long}
-
-module _ (k w : ℕ) where
-  pub address_four : k ≡ 4 → w / 4_294_967_296 * 65_536 ≡ cond (eqb k 4) (w / 4_294_967_296 * 65_536) (w / 65_536)
-  address_four e = rw e
-
-  pub address_six : (k ≡ 4 → ⊥) → w / 65_536 ≡ cond (eqb k 4) (w / 4_294_967_296 * 65_536) (w / 65_536)
-  address_six n = rw (ne_eqb k 4 n)
-
-pub ruleset addresses = (address_four, address_six)
 
 module _ (s : Bytes) (at : ℕ) (p : Payload s at) where
   pub second_word : at + 8 + 8 ≤ length s

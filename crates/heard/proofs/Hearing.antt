@@ -26,16 +26,17 @@ use Rattle.message.specs.Record as said
 use Rattle.message.specs.Record.{part_of, payload_of, good_record}
 use Rattle.message.specs.Read.{front, front_of, message_in, sized}
 use Rattle.message.specs.Hear as message
-use Rattle.heard.specs.declared.hear.Stop.{Stop}
-use Rattle.heard.specs.declared.hear.Stop.TheVariants.{Faulty, Ended}
-use Rattle.heard.specs.declared.hear.Step.{Step}
-use Rattle.heard.specs.declared.hear.Step.TheVariants.{On, Halt}
-use Rattle.heard.specs.declared.hear.Heard.{Heard}
+use Rattle.std.specs.declared.option.Option.{Option as StdOption}
+use Rattle.std.specs.declared.option.Option.TheVariants.{None, Some}
+use Rattle.std.specs.declared.result.Result.{Result}
+use Rattle.std.specs.declared.result.Result.TheVariants.{Ok, Err}
+use Rattle.heard.specs.declared.hear.End.{End}
+use Rattle.heard.specs.declared.hear.Fault.{Fault}
 use Rattle.heard.specs.declared.sums.Sums.{Sums}
 use Rattle.heard.specs.Place.{type_at, size_at, flags_at, key_at, told_at, Payload, Messages, done, more}
 use Rattle.heard.specs.Heard.{stop_is, HeardIs, count_flags, sum_fields}
 pub use Rattle.heard.specs.Step.{Hearing}
-use Rattle.heard.specs.Step.{is_whole, Framed, Ending, Timed, Closing, ended_at, sized_at, payload_at, opens, StepIs, EndIs, step_means, plus_at, Small, Summed, heard_of, behind}
+use Rattle.heard.specs.Step.{is_whole, Framed, Ending, Timed, Closing, ended_at, sized_at, payload_at, opens, StopIs, EndIs, stop_means, plus_at, Small, Summed, behind}
 use Rattle.heard.proofs.Places.{size_least}
 use Rattle.heard.proofs.Summing.{summed_more, small_more}
 use Rattle.heard.proofs.Reading as reading
@@ -115,7 +116,7 @@ pub ruleset wholes = (whole_short, whole_first, whole_word, whole_other, whole_i
 -- ---- ending
 
 module _ (v : Version) (session : ℕ) (s : Bytes) (at size : ℕ) (f : Ending v s at size) where
-  abbrev Ends : Stop → Type 0
+  abbrev Ends : Result End Fault → Type 0
   Ends r = EndIs v session s at r
 
   ending_front : (go : ℕ → Bytes → message.Heard)
@@ -124,7 +125,7 @@ module _ (v : Version) (session : ℕ) (s : Bytes) (at size : ℕ) (f : Ending v
       heard_front v session s at f.whole go
       ∙ rw (type_7 v (drop at s) (size_at s at) (type_at s at) f.type, two_drop s at 2, four_drop s at 8, drop-drop 12 at s, ← f.framed.is)
 
-  pub ending_missized : (m : ℕ) → m ≡ end_length v → (size ≡ m → ⊥) → Ends (Faulty at)
+  pub ending_missized : (m : ℕ) → m ≡ end_length v → (size ≡ m → ⊥) → Ends (Err (record { at = at }))
   ending_missized m e n = record { same = λ go. ending_front go ∙ rw (← e, ne_eqb size m n) }
 
   module _ (m : ℕ) (e : m ≡ end_length v) (d : size ≡ m) where
@@ -134,17 +135,17 @@ module _ (v : Version) (session : ℕ) (s : Bytes) (at size : ℕ) (f : Ending v
     ended go = ending_front go ∙ rw (← e, eq-eqb size m d)
 
     module _ (u : ℕ) (g : u ≡ two_at s (at + 2)) where
-      pub ending_other : (u ≡ session → ⊥) → Ends (Faulty at)
+      pub ending_other : (u ≡ session → ⊥) → Ends (Err (record { at = at }))
       ending_other n = record { same = λ go. ended go ∙ rw (← g, ne_eqb u session n) }
 
       module _ (k : u ≡ session) where
-        pub ending_longer : (at + size ≡ length s → ⊥) → Ends (Faulty (at + size))
+        pub ending_longer : (at + size ≡ length s → ⊥) → Ends (Err (record { at = at + size }))
         ending_longer n =
             let l : at + size < length s = omega (arith, f.framed.within) in
             record { same = λ go. ended go ∙ rw (← g, eq-eqb u session k, drop-cons s (at + size) 0 l) }
 
         module _ (l : at + size ≡ length s) where
-          pub ending_ended : (r : Stop) → r ≡ ended_at v session s at → Ends r
+          pub ending_ended : (r : End) → r ≡ ended_at v session s at → Ends (Ok r)
           ending_ended r h = rw h (record { same = λ go. ended go ∙ rw (← g, eq-eqb u session k, drop_of_length-le s {i = at + size} (omega arith)) })
 
 pub ending_closing : (v : Version) (s : Bytes) (at size : ℕ) → Ending v s at size → (m : ℕ) → m ≡ end_length v → size ≡ m → Closing v s at
@@ -162,7 +163,7 @@ module _ (v : Version) (session : ℕ) (s : Bytes) (at : ℕ) (f : Closing v s a
   ended_times = record { within = omega (arith, end_long v, f.within) }
 
   pub ended_is : Octets s → (w : ℕ) → w ≡ word_at s (at + 4) → (t : Timing) → t ≡ times_in v (drop (at + 12) s)
-      → Ended (record { 0 = session }) (record { 0 = w % 4_294_967_296 }) t ≡ ended_at v session s at
+      → ◌≡◌ {A = End} (record { session = record { 0 = session }; serial = record { 0 = w % 4_294_967_296 }; times = t }) (ended_at v session s at)
   ended_is o w h t i =
       let z : at + 4 + 4 ≡ at + 8 = omega arith in
       let x0 : w % 4_294_967_296 ≡ four_at s (at + 4 + 4) = rw h (low_half s o (at + 4)) in
@@ -171,10 +172,10 @@ module _ (v : Version) (session : ℕ) (s : Bytes) (at : ℕ) (f : Closing v s a
 
 pub ruleset ends = (ended_serial, ended_times, ended_is)
 
--- ---- step_at
+-- ---- stop_at
 
 module _ (v : Version) (session : ℕ) (s : Bytes) (at : ℕ) (b : Bool) (e : b ≡ is_whole v (drop at s)) where
-  pub step_cut : not b ≡ true → StepIs v session s at (Halt (Faulty at))
+  pub step_cut : not b ≡ true → StopIs v session s at (Some (Err (record { at = at })))
   step_cut n =
       record {
         same = λ go. rw (front_not v (drop at s) (sym e ∙ not-true b n));
@@ -200,11 +201,11 @@ module _ (v : Version) (session : ℕ) (s : Bytes) (at : ℕ) (b : Bool) (e : b 
       pub step_ending : type_at s at ≡ 7 → Ending v s at (w % 4_294_967_296)
       step_ending t = record { framed = step_framed; whole = whole; type = t }
 
-      pub step_ended : type_at s at ≡ 7 → (r : Stop) → EndIs v session s at r → StepIs v session s at (Halt r)
+      pub step_ended : type_at s at ≡ 7 → (r : Result End Fault) → EndIs v session s at r → StopIs v session s at (Some r)
       step_ended t r h = record { same = h.same; good = λ h. never cc }
 
       module _ (p : Bool) (q : p ≡ payload_at v s at) where
-        pub step_on : p ≡ true → StepIs v session s at On
+        pub step_on : p ≡ true → StopIs v session s at None
         unfolding payload_at
         step_on t =
             let c = both (sized_at v s at) (leb (flags_at s at) 1 && good_record (key_at s at)) (sym q ∙ t) in
@@ -213,7 +214,7 @@ module _ (v : Version) (session : ℕ) (s : Bytes) (at : ℕ) (b : Bool) (e : b 
             payload : sized_at v s at ≡ true → leb (flags_at s at) 1 && good_record (key_at s at) ≡ true → Payload s at
             payload x y = reading.payload_here v s at x y (omega (arith, step_framed.is, step_framed.within))
 
-        pub step_off : (type_at s at ≡ 7 → ⊥) → p ≡ false → StepIs v session s at (Halt (Faulty at))
+        pub step_off : (type_at s at ≡ 7 → ⊥) → p ≡ false → StopIs v session s at (Some (Err (record { at = at })))
         unfolding payload_at
         step_off n t =
             record {
@@ -336,11 +337,11 @@ unfolding count_flags sum_fields
 summed_start s = record { announced = refl; withdrawn = refl; more = refl; less = refl }
 
 module _ (v : Version) (s : Bytes) (b : Bool) (e : b ≡ opens v s) where
-  pub hear_shut : not b ≡ true → (r : Heard) → r ≡ heard_of (Faulty 0) 8 none_yet → HeardIs v s r
+  pub hear_shut : not b ≡ true → HeardIs v s (record { stop = Err (record { at = 0 }); over = 8; sums = none_yet })
   unfolding count_flags sum_fields
-  hear_shut n r f =
+  hear_shut n =
       let h = shut v s (sym e ∙ not-true b n) in
-      rw f (record {
+      record {
         xs = [];
         messages = done;
         told = rw h;
@@ -349,7 +350,7 @@ module _ (v : Version) (s : Bytes) (b : Bool) (e : b ≡ opens v s) where
         withdrawn = refl;
         more = refl;
         less = refl;
-      })
+      }
 
   pub hear_start : length s * 1 < 2 ^ 63 → not b ≡ false → (session : ℕ) → session ≡ two_at s 2 → session < 65_536 → Hearing v session s 8 none_yet
   unfolding opens
@@ -388,14 +389,14 @@ module _ (v : Version) (session : ℕ) (s : Bytes) (at : ℕ) (c : Sums) (h : He
       go zero i e = absurd (omega arith)
       go (suc n) i e = (n, omega arith, e)
 
-  module _ (r : Step) (t : StepIs v session s at r) where
-    stepped : behind (map (told_at s) h.xs) (step_means s at r (message.hear_f turn.0 v session)) ≡ message.hear v s
+  module _ (r : StdOption (Result End Fault)) (t : StopIs v session s at r) where
+    stepped : behind (map (told_at s) h.xs) (stop_means s at r (message.hear_f turn.0 v session)) ≡ message.hear v s
     stepped = rw (t.same (message.hear_f turn.0 v session)) at turn.2
 
-    pub hear_halt : (stop : Stop) → r ≡ Halt stop → (x : Heard) → x ≡ heard_of stop at c → HeardIs v s x
-    hear_halt stop e x f =
+    pub hear_halt : (stop : Result End Fault) → r ≡ Some stop → HeardIs v s (record { stop = stop; over = at; sums = c })
+    hear_halt stop e =
         let g : behind (map (told_at s) h.xs) (message.stopped (stop_is stop)) ≡ message.hear v s = rw e at stepped in
-        rw f (record {
+        record {
           xs = h.xs;
           messages = h.messages;
           told = sym (ap (λ (k : message.Heard). k.told) g) ∙ append-nil (map (told_at s) h.xs);
@@ -404,9 +405,9 @@ module _ (v : Version) (session : ℕ) (s : Bytes) (at : ℕ) (c : Sums) (h : He
           withdrawn = h.summed.withdrawn;
           more = h.summed.more;
           less = h.summed.less;
-        })
+        }
 
-    module _ (e : r ≡ On) where
+    module _ (e : r ≡ None) where
       pub hear_payload : Payload s at
       hear_payload = t.good e
 

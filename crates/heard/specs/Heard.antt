@@ -1,18 +1,20 @@
 -- What is heard in an answer, by offsets.
+use Rattle.std.specs.declared.result.Result.{Result}
+use Rattle.std.specs.declared.result.Result.TheVariants.{Ok, Err}
 use Rattle.std.specs.Prelude.{ℕ, ◌+◌, ◌≡◌, List, [], ◌∷◌, map, Bool, true, false, cond, length}
 use Rattle.payload.specs.Content.{Bytes}
 use Rattle.message.specs.declared.version.Version.{Version}
 use Rattle.message.specs.Hear as message
 use Rattle.heard.specs.Place.{Messages, key_at, announces_at, told_at}
 use Rattle.heard.specs.Field.{record_field}
-use Rattle.heard.specs.declared.hear.Stop.{Stop}
-use Rattle.heard.specs.declared.hear.Stop.TheVariants.{Faulty, Ended}
+use Rattle.heard.specs.declared.hear.End.{End}
+use Rattle.heard.specs.declared.hear.Fault.{Fault}
 use Rattle.heard.specs.declared.hear.Heard.{Heard}
 
 -- how an answer stops
-abbrev pub stop_is : Stop → message.Stop
-stop_is (Faulty at) = message.faulty at
-stop_is (Ended session serial times) = message.ended session.0 serial.0 times
+abbrev pub stop_is : Result End Fault → message.Stop
+stop_is (Err fault) = message.faulty fault.at
+stop_is (Ok end) = message.ended end.session.0 end.serial.0 end.times
 
 -- how many of the messages announce (true) or withdraw (false)
 unfoldable pub count_flags : Bytes → Bool → List ℕ → ℕ
@@ -31,7 +33,7 @@ pub record HeardIs (v : Version) (s : Bytes) (r : Heard) : Type 0 where
   pub messages : Messages s 8 xs r.over
   pub told : (message.hear v s).told ≡ map (told_at s) xs
   pub stop : stop_is r.stop ≡ (message.hear v s).stop
-  pub announced : r.announced ≡ count_flags s true xs
-  pub withdrawn : r.withdrawn ≡ count_flags s false xs
-  pub more : r.more ≡ sum_fields s true xs
-  pub less : r.less ≡ sum_fields s false xs
+  pub announced : r.sums.announced ≡ count_flags s true xs
+  pub withdrawn : r.sums.withdrawn ≡ count_flags s false xs
+  pub more : r.sums.more ≡ sum_fields s true xs
+  pub less : r.sums.less ≡ sum_fields s false xs

@@ -1,5 +1,8 @@
 -- How far the hearing of an answer has come, and one message more.
 use Rattle.std.specs.Prelude.{ℕ, ◌+◌, ◌-◌, ◌*◌, ◌^◌, ◌<◌, ◌≤◌, ◌≡◌, List, ◌++◌, map, Bool, true, false, cond, ◌&&◌, leb, eqb, length, get_or, drop}
+use Rattle.std.specs.declared.option.Option.{Option}
+use Rattle.std.specs.declared.option.Option.TheVariants.{None, Some}
+use Rattle.std.specs.declared.result.Result.{Result}
 use Rattle.number.specs.Number.{four_at}
 use Rattle.payload.specs.Content.{Bytes}
 use Rattle.message.specs.declared.version.Version.{Version}
@@ -10,11 +13,8 @@ use Rattle.message.specs.Hear as message
 use Rattle.heard.specs.Place.{type_at, size_at, flags_at, key_at, announces_at, told_at, Payload, Messages}
 use Rattle.heard.specs.Field.{record_field}
 use Rattle.heard.specs.Heard.{stop_is, count_flags, sum_fields}
-use Rattle.heard.specs.declared.hear.Stop.{Stop}
-use Rattle.heard.specs.declared.hear.Stop.TheVariants.{Ended}
-use Rattle.heard.specs.declared.hear.Heard.{Heard}
-use Rattle.heard.specs.declared.hear.Step.{Step}
-use Rattle.heard.specs.declared.hear.Step.TheVariants.{On, Halt}
+use Rattle.heard.specs.declared.hear.End.{End}
+use Rattle.heard.specs.declared.hear.Fault.{Fault}
 use Rattle.heard.specs.declared.sums.Sums.{Sums}
 
 -- a header of the version stands at the front of t, and as many bytes as it says
@@ -42,8 +42,8 @@ pub record Closing (v : Version) (s : Bytes) (at : ℕ) : Type 0 where
   pub within : at + end_length v ≤ length s
 
 -- and what it says, in an answer of this session
-abbrev pub ended_at : Version → ℕ → Bytes → ℕ → Stop
-ended_at v session s at = Ended (record { 0 = session }) (record { 0 = four_at s (at + 8) }) (times_in v (drop (at + 12) s))
+abbrev pub ended_at : Version → ℕ → Bytes → ℕ → End
+ended_at v session s at = record { session = record { 0 = session }; serial = record { 0 = four_at s (at + 8) }; times = times_in v (drop (at + 12) s) }
 
 -- the length is one that a payload message of the version has
 unfoldable pub sized_at : Version → Bytes → ℕ → Bool
@@ -60,17 +60,17 @@ payload_at v s at = sized_at v s at && (leb (flags_at s at) 1 && good_record (ke
 unfoldable pub opens : Version → Bytes → Bool
 opens v s = is_whole v s && (eqb (get_or s 1 0) 3 && eqb (four_at s 4) 8)
 
--- what a step says of the answer from `at` on; `go` hears what is behind the message
-abbrev pub step_means : Bytes → ℕ → Step → (ℕ → Bytes → message.Heard) → message.Heard
-step_means s at On go = message.more (told_at s at) (go (at + size_at s at) (drop (at + size_at s at) s))
-step_means s at (Halt stop) go = message.stopped (stop_is stop)
+-- the answer from `at` on, if it stops there or a good payload message stands there; `go` hears what is behind the message
+abbrev pub stop_means : Bytes → ℕ → Option (Result End Fault) → (ℕ → Bytes → message.Heard) → message.Heard
+stop_means s at None go = message.more (told_at s at) (go (at + size_at s at) (drop (at + size_at s at) s))
+stop_means s at (Some stop) go = message.stopped (stop_is stop)
 
-pub record StepIs (v : Version) (session : ℕ) (s : Bytes) (at : ℕ) (r : Step) : Type 0 where
-  pub same : (go : ℕ → Bytes → message.Heard) → message.hear_front session at (front v (drop at s)) go ≡ step_means s at r go
-  pub good : r ≡ On → Payload s at
+pub record StopIs (v : Version) (session : ℕ) (s : Bytes) (at : ℕ) (r : Option (Result End Fault)) : Type 0 where
+  pub same : (go : ℕ → Bytes → message.Heard) → message.hear_front session at (front v (drop at s)) go ≡ stop_means s at r go
+  pub good : r ≡ None → Payload s at
 
 -- the same of a message that ends the answer
-pub record EndIs (v : Version) (session : ℕ) (s : Bytes) (at : ℕ) (r : Stop) : Type 0 where
+pub record EndIs (v : Version) (session : ℕ) (s : Bytes) (at : ℕ) (r : Result End Fault) : Type 0 where
   pub same : (go : ℕ → Bytes → message.Heard) → message.hear_front session at (front v (drop at s)) go ≡ message.stopped (stop_is r)
 
 -- the sums with one message more
@@ -94,10 +94,6 @@ pub record Summed (s : Bytes) (xs : List ℕ) (c : Sums) : Type 0 where
   pub withdrawn : c.withdrawn ≡ count_flags s false xs
   pub more : c.more ≡ sum_fields s true xs
   pub less : c.less ≡ sum_fields s false xs
-
--- what is heard where the messages end at `over`
-abbrev pub heard_of : Stop → ℕ → Sums → Heard
-heard_of stop over c = record { stop = stop; over = over; announced = c.announced; withdrawn = c.withdrawn; more = c.more; less = c.less }
 
 -- messages heard before
 abbrev pub behind : List message.Told → message.Heard → message.Heard

@@ -42,36 +42,37 @@ pub(crate) fn is_payload(version: Version, s: &[u8], at: usize, size: usize) -> 
     requires { Framed s.now at size }
     ensures { result ≡ payload_at version s.now at }
 {
-    let kind = s[at + 1];
-    if kind == 4 {
-        if size != 20 {
-            return false;
+    match s[at + 1] {
+        4 => {
+            if size != 20 {
+                return false;
+            }
+            if 1 < s[at + 8] {
+                return false;
+            }
+            four_good(s, at)
         }
-        if 1 < s[at + 8] {
-            return false;
+        6 => {
+            if size != 32 {
+                return false;
+            }
+            if 1 < s[at + 8] {
+                return false;
+            }
+            six_good(s, at)
         }
-        return four_good(s, at);
-    }
-    if kind == 6 {
-        if size != 32 {
-            return false;
+        9 => {
+            if !is_spoken(version, 2) {
+                return false;
+            }
+            if size < 32 {
+                return false;
+            }
+            if 1 < s[at + 2] {
+                return false;
+            }
+            size <= 1056
         }
-        if 1 < s[at + 8] {
-            return false;
-        }
-        return six_good(s, at);
+        _ => false,
     }
-    if kind != 9 {
-        return false;
-    }
-    if !is_spoken(version, 2) {
-        return false;
-    }
-    if size < 32 {
-        return false;
-    }
-    if 1 < s[at + 2] {
-        return false;
-    }
-    size <= 1056
 }

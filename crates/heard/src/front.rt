@@ -6,7 +6,7 @@ ghost use Rattle.heard.specs.Place.{key_at, Payload};
 ghost use Rattle.heard.specs.Compare.{Of};
 
 use crate::place::type_at;
-use number::{wide, word_at};
+use number::word_at;
 
 // What a prefix's front has of the eight bytes from its address on: of an IPv4 one the four of the address alone.
 fn address_in(kind: u8, w: usize) -> usize
@@ -27,7 +27,7 @@ pub fn front_at(s: &[u8], at: usize) -> usize
     if kind == 9 {
         return 0x0200000000000000 + word_at(s, at + 8) / 256;
     }
-    0x0100000000000000 + wide(kind) * 0x1000000000000 + address_in(kind, word_at(s, at + 12))
+    0x0100000000000000 + usize::from(kind) * 0x1000000000000 + address_in(kind, word_at(s, at + 12))
 }
 
 // The word of an IPv6 prefix's record behind its front.

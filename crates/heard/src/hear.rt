@@ -1,7 +1,7 @@
 // One pass over the bytes of an answer: its payload messages, up to its end or to the first message that is faulty.
 ghost use Rattle.std.specs.Prelude.{◌≡◌, ◌≤◌, ◌<◌, length, drop};
 ghost use Rattle.heard.specs.Heard.{HeardIs};
-ghost use Rattle.heard.specs.Step.{is_whole, Closing, ended_at, Ending, opens, heard_of, StepIs, EndIs};
+ghost use Rattle.heard.specs.Step.{is_whole, Closing, ended_at, Ending, opens, StopIs, EndIs};
 
 use crate::check::is_payload;
 use crate::place::size_at;
@@ -12,33 +12,28 @@ use number::{two_at, word_at};
 use serial::timing::Timing;
 use serial::{Serial, Session};
 
-// How an answer stops.
+// What a good End of Data says.
 #[derive(Clone, Copy)]
-pub enum Stop {
-    // At a faulty message, or at the end where one is missing.
-    Faulty { at: usize },
-    // With its End of Data.
-    Ended(Session, Serial, Timing),
+pub struct End {
+    pub session: Session,
+    pub serial: Serial,
+    pub times: Timing,
+}
+
+// A faulty message, or the end of an answer where a message is missing.
+#[derive(Clone, Copy)]
+pub struct Fault {
+    pub at: usize,
 }
 
 // What is heard of an answer.
 #[derive(Clone, Copy)]
 pub struct Heard {
-    pub stop: Stop,
+    // How it stops.
+    pub stop: Result<End, Fault>,
     // Where the payload messages end.
     pub over: usize,
-    pub announced: usize,
-    pub withdrawn: usize,
-    // Bytes of the fields announced and withdrawn.
-    pub more: usize,
-    pub less: usize,
-}
-
-// What stands at a place: a good payload message, or what stops the answer.
-#[derive(Clone, Copy)]
-pub enum Step {
-    On,
-    Halt(Stop),
+    pub sums: Sums,
 }
 
 // Whether a header of the version stands at `at`, and as many bytes as it says.
@@ -56,50 +51,52 @@ fn is_whole(version: Version, s: &[u8], at: usize) -> bool
     word_at(s, at) % 4294967296 <= room
 }
 
-// What a good End of Data says.
-fn ended(version: Version, session: usize, s: &[u8], at: usize) -> Stop
+// The good End of Data at `at`.
+fn ended(version: Version, session: usize, s: &[u8], at: usize) -> End
     requires { Closing version s.now at × (session < 65536) }
     ensures { result ≡ ended_at version session s.now at }
 {
-    let serial = word_at(s, at + 4) % 4294967296;
-    let times = times_at(version, s, at + 12);
-    Stop::Ended(Session(session as u16), Serial(serial as u32), times)
+    End {
+        session: Session(session as u16),
+        serial: Serial((word_at(s, at + 4) % 4294967296) as u32),
+        times: times_at(version, s, at + 12),
+    }
 }
 
 // How a message of the type End of Data stops the answer.
-fn ending(version: Version, session: usize, s: &[u8], at: usize, size: usize) -> Stop
+fn ending(version: Version, session: usize, s: &[u8], at: usize, size: usize) -> Result<End, Fault>
     requires { Ending version s.now at size × (session < 65536) }
     ensures { EndIs version session s.now at result }
 {
     if size != end_length(version) {
-        return Stop::Faulty { at };
+        return Err(Fault { at });
     }
     if two_at(s, at + 2) != session {
-        return Stop::Faulty { at };
+        return Err(Fault { at });
     }
     let end = at + size;
     if end != s.len() {
-        return Stop::Faulty { at: end };
+        return Err(Fault { at: end });
     }
-    ended(version, session, s, at)
+    Ok(ended(version, session, s, at))
 }
 
-// What stands at `at`.
-fn step_at(version: Version, session: usize, s: &[u8], at: usize) -> Step
+// How the answer stops at `at`, if no good payload message stands there.
+fn stop_at(version: Version, session: usize, s: &[u8], at: usize) -> Option<Result<End, Fault>>
     requires { (at ≤ length s.now) × (session < 65536) }
-    ensures { StepIs version session s.now at result }
+    ensures { StopIs version session s.now at result }
 {
     if !is_whole(version, s, at) {
-        return Step::Halt(Stop::Faulty { at });
+        return Some(Err(Fault { at }));
     }
     let size = word_at(s, at) % 4294967296;
     if s[at + 1] == 7 {
-        return Step::Halt(ending(version, session, s, at, size));
+        return Some(ending(version, session, s, at, size));
     }
     if is_payload(version, s, at, size) {
-        return Step::On;
+        return None;
     }
-    Step::Halt(Stop::Faulty { at })
+    Some(Err(Fault { at }))
 }
 
 // Whether an answer opens with a Cache Response.
@@ -115,20 +112,6 @@ fn is_open(version: Version, s: &[u8]) -> bool
     word_at(s, 0) % 4294967296 == 8
 }
 
-// What is heard where there is nothing good behind `at`.
-fn stopped(stop: Stop, over: usize, sums: Sums) -> Heard
-    ensures { result ≡ heard_of stop over sums }
-{
-    Heard {
-        stop,
-        over,
-        announced: sums.announced,
-        withdrawn: sums.withdrawn,
-        more: sums.more,
-        less: sums.less,
-    }
-}
-
 // What is heard in the bytes of an answer.
 pub fn hear(version: Version, s: &[u8]) -> Heard
     ensures { HeardIs version s.now result }
@@ -140,18 +123,24 @@ pub fn hear(version: Version, s: &[u8]) -> Heard
         less: 0,
     };
     if !is_open(version, s) {
-        return stopped(Stop::Faulty { at: 0 }, 8, sums);
+        return Heard {
+            stop: Err(Fault { at: 0 }),
+            over: 8,
+            sums,
+        };
     }
     let session = two_at(s, 2);
     let mut at = 8;
     loop {
-        match step_at(version, session, s, at) {
-            Step::Halt(stop) => return stopped(stop, at, sums),
-            Step::On => {
-                let size = size_at(s, at);
-                sums = plus(sums, s, at);
-                at += size;
-            }
+        if let Some(stop) = stop_at(version, session, s, at) {
+            return Heard {
+                stop,
+                over: at,
+                sums,
+            };
         }
+        let size = size_at(s, at);
+        sums = plus(sums, s, at);
+        at += size;
     }
 }

@@ -5,6 +5,7 @@ ghost use Rattle.heard.specs.Place.{type_at, size_at, announces_at, Payload};
 use number::word_at;
 
 // The type.
+// Kept: its number, with which `front_at` computes; an enum would be turned back into it there.
 pub fn type_at(s: &[u8], at: usize) -> u8
     requires { Payload s.now at }
     ensures { result ≡ type_at s.now at }

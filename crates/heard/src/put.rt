@@ -29,6 +29,7 @@ pub(crate) fn four_words(s: &[u8], at: usize) -> Words
 }
 
 // The field of an IPv6 prefix's record, as words.
+// Kept: as `four_words`, from other places of another message.
 pub(crate) fn six_words(s: &[u8], at: usize) -> Words
     requires { Prefix s.now 6 32 at }
     ensures { result ≡ words_at (record_field (key_at s.now at)) 0 }
@@ -81,14 +82,15 @@ pub fn put_record(s: &[u8], at: usize, out: &mut [u8], i: usize) -> usize
     requires { Payload s.now at × (i + length (record_field (key_at s.now at)) ≤ length out.old) }
     ensures { (result ≡ length (record_field (key_at s.now at))) × (out.new ≡ sets out.old i (record_field (key_at s.now at))) }
 {
-    let kind = type_at(s, at);
-    if kind == 4 {
-        store_words(out, i, four_words(s, at));
-        return 26;
+    match type_at(s, at) {
+        4 => {
+            store_words(out, i, four_words(s, at));
+            26
+        }
+        6 => {
+            store_words(out, i, six_words(s, at));
+            26
+        }
+        _ => put_key(s, at, out, i),
     }
-    if kind == 6 {
-        store_words(out, i, six_words(s, at));
-        return 26;
-    }
-    put_key(s, at, out, i)
 }

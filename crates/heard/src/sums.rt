@@ -10,6 +10,7 @@ use crate::place::{announces, size_at, type_at};
 pub struct Sums {
     pub announced: usize,
     pub withdrawn: usize,
+    // Bytes of the fields announced and withdrawn.
     pub more: usize,
     pub less: usize,
 }
@@ -34,15 +35,13 @@ pub(crate) fn plus(sums: Sums, s: &[u8], at: usize) -> Sums
     if announces(s, at) {
         return Sums {
             announced: sums.announced + 1,
-            withdrawn: sums.withdrawn,
             more: sums.more + size,
-            less: sums.less,
+            ..sums
         };
     }
     Sums {
-        announced: sums.announced,
         withdrawn: sums.withdrawn + 1,
-        more: sums.more,
         less: sums.less + size,
+        ..sums
     }
 }

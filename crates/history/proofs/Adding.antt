@@ -11,12 +11,10 @@ use borrow.Author.Tests.{leb-true}
 use Rattle.order.proofs.Never.{never}
 use Rattle.body.proofs.Sizes.{both}
 use Rattle.body.specs.declared.tag.Form.TheVariants.{Snapshot, Delta}
-use Rattle.field.specs.declared.verdict.Verdict.TheVariants as verdict
 use Rattle.field.specs.Verdict.{verdict}
 use Rattle.payload.specs.Content.{Bytes}
 use Rattle.payload.specs.Limit.{limit}
 use Rattle.delta.specs.declared.refusal.Refusal.TheVariants.{TooLong}
-use Rattle.delta.specs.declared.admit.Admitted.TheVariants.{Yes, No}
 use Rattle.delta.specs.Admission.{verdict_admitted, and_then, admit_one_of}
 use Rattle.item.proofs.Places.{drop_take}
 use Rattle.past.specs.declared.state.History.{History}
@@ -34,6 +32,7 @@ use Rattle.past.proofs.Steps.{admitted_fine}
 use Rattle.history.proofs.Forming.{formed_parts}
 use Rattle.history.proofs.Asking.{fine_true}
 use Rattle.history.proofs.Pushing.{drops_few}
+use Rattle.std.specs.Prelude.{Err, Ok}
 
 -- ---- what a well-formed history and an admitted snapshot tell
 
@@ -41,7 +40,7 @@ pub record Formed (h : History) (snapshots deltas : Bytes) : Type 0 where
   pub ranged : Ranged h
   pub short : length snapshots ≤ limit Snapshot
   pub within : h.snapshot ≤ length snapshots
-  pub good : verdict Snapshot (held_snapshot h snapshots) ≡ verdict.Fine
+  pub good : verdict Snapshot (held_snapshot h snapshots) ≡ Ok tt
   pub limited : length deltas ≤ limit Delta
   pub room : total (held_lengths h) ≤ length deltas
 
@@ -72,10 +71,10 @@ formed_is h s d e =
       room = leb-true (total (held_lengths h)) (length d) v.0;
     }
 
-pub admitted_short : (s : Bytes) → admit_one_of Snapshot s ≡ Yes → length s ≤ limit Snapshot
+pub admitted_short : (s : Bytes) → admit_one_of Snapshot s ≡ Ok tt → length s ≤ limit Snapshot
 admitted_short s = go (leb (length s) (limit Snapshot)) refl
   where
-    go : (t : Bool) → leb (length s) (limit Snapshot) ≡ t → and_then (cond t Yes (No (TooLong 1))) (verdict_admitted 1 (verdict Snapshot s)) ≡ Yes → length s ≤ limit Snapshot
+    go : (t : Bool) → leb (length s) (limit Snapshot) ≡ t → and_then (cond t (Ok tt) (Err (TooLong 1))) (verdict_admitted 1 (verdict Snapshot s)) ≡ Ok tt → length s ≤ limit Snapshot
     go true q e = leb-true (length s) (limit Snapshot) q
     go false q e = never cc
 

@@ -1,12 +1,12 @@
 -- Laws of the query.
 use Prim.Native.Nat.{ℕ, ◌^◌, ◌≤◌, ◌<◌}
-use mathlib.Core.Path.{◌≡◌, refl, sym, ap, ◌∙◌}
+use mathlib.Core.Path.{◌≡◌, refl, sym, ◌∙◌}
 use mathlib.Core.List.{List, [], ◌∷◌}
-use mathlib.Core.Bool.{Bool, true, false, not, cond, ◌&&◌}
+use mathlib.Core.Bool.{Bool, true, false, cond, ◌&&◌}
 use native.Mathlib.Omega.{arith}
 use lib.Dec.{leb, eqb}
 use lib.ListN.{length, take}
-use borrow.Author.Tests.{not-true, not-false, leb-true, le-leb, lt-leb, eqb-true, eq-eqb, ne_eqb}
+use borrow.Author.Tests.{leb-true, le-leb, lt-leb, eqb-true, ne_eqb}
 use Rattle.order.specs.Map.{All}
 use Rattle.order.proofs.Never.{never}
 use Rattle.body.proofs.Sizes.{both}
@@ -14,71 +14,34 @@ use Rattle.serial.specs.declared.Serial.{Serial}
 use Rattle.serial.specs.declared.Session.{Session}
 use Rattle.serial.specs.Serial.{distance_of, session_of}
 use Rattle.body.specs.declared.tag.Form.TheVariants.{Snapshot, Delta}
-use Rattle.field.specs.declared.verdict.Verdict.{Verdict}
-use Rattle.field.specs.declared.verdict.Verdict.TheVariants as verdict
 use Rattle.field.specs.Verdict.{verdict}
 use Rattle.payload.specs.Content.{Bytes}
 use Rattle.payload.specs.Limit.{limit}
 use Rattle.payload.specs.Payload.{encode}
 use Rattle.delta.specs.declared.refusal.Refusal.{Refusal}
 use Rattle.delta.specs.declared.refusal.Refusal.TheVariants.{NoRoom, OtherSession, NotServed, IllFormed}
-use Rattle.delta.specs.declared.admit.Admitted.{Admitted}
-use Rattle.delta.specs.declared.admit.Admitted.TheVariants.{Yes, No}
 use Rattle.item.specs.declared.sink.Counts.{Counts}
-use Rattle.walk.specs.declared.walk.Output.{Output}
-use Rattle.walk.specs.declared.walk.Output.TheVariants as output
 use Rattle.delta.specs.Admission.{and_then}
 use Rattle.delta.specs.Answer.{out_after}
 use Rattle.walk.specs.Walk.{output_of, whole_out}
 use Rattle.delta.proofs.Answering.{delta_room, delta_written, delta_out}
 use Rattle.past.specs.declared.state.History.{History}
-use Rattle.past.specs.declared.query.Answer.TheVariants.{Served}
 use Rattle.past.specs.declared.query.Queried.{Queried}
 use Rattle.past.specs.Store.{total, held_lengths, held_deltas}
 use Rattle.past.specs.WellFormed.{is_fine, is_good, every, good_keep, in_range, good_serial, good_start, good_stores, good_held, well_formed}
-use Rattle.past.specs.Query.{is_served, is_session, passes, ask_admitted, query_admitted, merged_last, refused_with, query_at, query_of, query_out}
+use Rattle.past.specs.Query.{is_served, is_session, passes, query_admitted, merged_last, refused_with, query_at, query_of, query_out}
 use Rattle.merged.specs.Place.{IsFine, Stored, last_merged}
 use Rattle.past.proofs.Served.{served_rule, rule_within}
+use Rattle.std.specs.Prelude.{None, Option, Some, Err, Ok}
+use Rattle.delta.specs.Admission.{Admitted}
+use Rattle.field.specs.declared.verdict.Flaw.TheVariants as flaw
+use Rattle.field.specs.Verdict.{Verdict}
 
 -- ---- the tests
 
-pub session_is : (h : History) (session own : Session) → own ≡ session_of h.session → eqb session.0 own.0 ≡ is_session h session
-session_is h session own e = ap (λ (s : Session). eqb session.0 s.0) e
-
 module _ (start : Serial) (n : ℕ) (asked : Serial) (d : ℕ) where
-  pub served_start : n ≡ 0 → eqb asked.0 start.0 ≡ is_served start n asked d
-  served_start e = rw (eq-eqb n 0 e)
-
   pub served_held : (n ≡ 0 → ⊥) → leb d n ≡ is_served start n asked d
   served_held h = rw (ne_eqb n 0 h)
-
-pub ruleset testing = (session_is, served_start, served_held)
-
--- ---- 5, then 6
-
-module _ (h : History) (session : Session) (asked : Serial) (u : Bool) (f : u ≡ is_session h session) where
-  pub ask_session : not u ≡ true → No OtherSession ≡ ask_admitted h session asked
-  ask_session p = rw (← f, not-true u p)
-
-  module _ (p : not u ≡ false) (d : ℕ) (i : d ≡ distance_of h.newest asked) (v : Bool) (g : v ≡ is_served h.start h.n asked d) where
-    pub ask_serial : not v ≡ true → No NotServed ≡ ask_admitted h session asked
-    ask_serial o = rw (← f, not-false u p, ← i, ← g, not-true v o)
-
-    pub ask_served : not v ≡ false → Yes ≡ ask_admitted h session asked
-    ask_served o = rw (← f, not-false u p, ← i, ← g, not-false v o)
-
-pub ruleset asking = (ask_session, ask_serial, ask_served)
-
--- ---- 7, then 5 and 6
-
-module _ (h : History) (session : Session) (asked : Serial) (snapshots deltas : Bytes) (t : Bool) (e : t ≡ well_formed h snapshots deltas) where
-  pub admit_formed : not t ≡ true → No IllFormed ≡ query_admitted h session asked snapshots deltas
-  admit_formed q = rw (← e, not-true t q)
-
-  pub admit_asked : not t ≡ false → (x : Admitted) → x ≡ ask_admitted h session asked → x ≡ query_admitted h session asked snapshots deltas
-  admit_asked q x i = i ∙ rw (← e, not-false t q)
-
-pub ruleset admitting = (admit_formed, admit_asked)
 
 -- ---- serve
 
@@ -91,24 +54,24 @@ module _ (h : History) (d : ℕ) (deltas : Bytes) (n : ℕ) (en : n ≡ h.n) whe
   serve_stored s = rw en s
 
   module _ (k : ℕ) (ek : k ≡ d) (o : Bytes) where
-    module _ (w : Output) (e : w ≡ output_of Delta (last_merged deltas h.deltas n k) (length o)) where
+    module _ (w : Option Counts) (e : w ≡ output_of Delta (last_merged deltas h.deltas n k) (length o)) where
       output_is : w ≡ output_of Delta (last_merged deltas h.deltas h.n d) (length o)
       output_is = e ∙ rw (en, ek)
 
-      pub serve_written : (c : Counts) (s : Session) → w ≡ output.Written c → s ≡ session_of h.session →
-          record { session = s; serial = h.newest; answer = Served c } ≡ query_at Yes h (merged_last d (held_deltas h deltas)) (length o)
+      pub serve_written : (c : Counts) (s : Session) → w ≡ Some c → s ≡ session_of h.session →
+          record { session = s; serial = h.newest; answer = Ok c } ≡ query_at (Ok tt) h (merged_last d (held_deltas h deltas)) (length o)
       serve_written c s q i =
           let b = merged_last d (held_deltas h deltas) in
           let m = delta_written (last_merged deltas h.deltas h.n d) b (merged_is h d deltas) (length o) c (sym q ∙ output_is) in
           rw (le-leb (length b) (length o) m.0, i, m.1)
 
-      pub serve_long : (r : Queried) → w ≡ output.NoRoom → r ≡ refused_with NoRoom → r ≡ query_at Yes h (merged_last d (held_deltas h deltas)) (length o)
+      pub serve_long : (r : Queried) → w ≡ None → r ≡ refused_with NoRoom → r ≡ query_at (Ok tt) h (merged_last d (held_deltas h deltas)) (length o)
       serve_long r q i =
           let b = merged_last d (held_deltas h deltas) in
           let m = delta_room (last_merged deltas h.deltas h.n d) b (merged_is h d deltas) (length o) (sym q ∙ output_is) in
           rw (lt-leb (length b) (length o) m) i
 
-    pub serve_bytes : (o' : Bytes) → o' ≡ whole_out Delta (last_merged deltas h.deltas n k) o → o' ≡ out_after Yes (merged_last d (held_deltas h deltas)) o
+    pub serve_bytes : (o' : Bytes) → o' ≡ whole_out Delta (last_merged deltas h.deltas n k) o → o' ≡ out_after (Ok tt) (merged_last d (held_deltas h deltas)) o
     serve_bytes o' e =
         e ∙ rw (en, ek) (delta_out (last_merged deltas h.deltas h.n d) (merged_last d (held_deltas h deltas)) (merged_is h d deltas) o)
 
@@ -116,11 +79,11 @@ pub ruleset serving = (serve_stored, serve_written, serve_long, serve_bytes)
 
 -- ---- what an admitted query may rely on
 
-pub fine_true : (v : Verdict) → is_fine v ≡ true → v ≡ verdict.Fine
-fine_true verdict.Fine e = refl
-fine_true (verdict.Bad at) e = never cc
-fine_true (verdict.Senseless at) e = never cc
-fine_true (verdict.NotAbove at) e = never cc
+pub fine_true : (v : Verdict) → is_fine v ≡ true → v ≡ Ok tt
+fine_true (Ok tt) e = refl
+fine_true (Err (flaw.Bad at)) e = never cc
+fine_true (Err (flaw.Senseless at)) e = never cc
+fine_true (Err (flaw.NotAbove at)) e = never cc
 
 every_true : (ds : List Bytes) → every (is_good Delta) ds ≡ true → All IsFine ds
 every_true [] e = tt
@@ -168,14 +131,14 @@ module _ (h : History) (snapshots deltas : Bytes) (e : well_formed h snapshots d
 -- ---- query
 
 -- the tests of an admitted query
-tests_true : (t u v : Bool) → and_then (passes t IllFormed) (and_then (passes u OtherSession) (passes v NotServed)) ≡ Yes → (t ≡ true) × (v ≡ true)
+tests_true : (t u v : Bool) → and_then (passes t IllFormed) (and_then (passes u OtherSession) (passes v NotServed)) ≡ Ok tt → (t ≡ true) × (v ≡ true)
 tests_true true true true e = (refl, refl)
 tests_true true true false e = never cc
 tests_true true false v e = never cc
 tests_true false u v e = never cc
 
 module _ (h : History) (session : Session) (asked : Serial) (snapshots deltas : Bytes) (x : Admitted) (e : x ≡ query_admitted h session asked snapshots deltas) where
-  module _ (r : Refusal) (q : x ≡ No r) where
+  module _ (r : Refusal) (q : x ≡ Err r) where
     pub query_refused : (a : Queried) (room : ℕ) → a ≡ refused_with r → a ≡ query_of h session asked snapshots deltas room
     unfolding query_of
     query_refused a room i = rw (← e, q) i
@@ -184,7 +147,7 @@ module _ (h : History) (session : Session) (asked : Serial) (snapshots deltas : 
     unfolding query_out
     query_kept o = rw (← e, q)
 
-  module _ (q : x ≡ Yes) where
+  module _ (q : x ≡ Ok tt) where
     passed : (well_formed h snapshots deltas ≡ true) × (is_served h.start h.n asked (distance_of h.newest asked) ≡ true)
     passed = tests_true (well_formed h snapshots deltas) (is_session h session) (is_served h.start h.n asked (distance_of h.newest asked)) (sym e ∙ q)
 
@@ -197,11 +160,11 @@ module _ (h : History) (session : Session) (asked : Serial) (snapshots deltas : 
           let w = rule_within h.start h.n h.newest asked l (formed_serial h snapshots deltas passed.0) (served_rule h.start h.n asked (distance_of h.newest asked) passed.1) in
           rw i w
 
-      pub query_served : (a : Queried) (room : ℕ) → a ≡ query_at Yes h (merged_last d (held_deltas h deltas)) room → a ≡ query_of h session asked snapshots deltas room
+      pub query_served : (a : Queried) (room : ℕ) → a ≡ query_at (Ok tt) h (merged_last d (held_deltas h deltas)) room → a ≡ query_of h session asked snapshots deltas room
       unfolding query_of
       query_served a room j = rw (← e, q) (rw i at j)
 
-      pub query_bytes : (o o' : Bytes) → o' ≡ out_after Yes (merged_last d (held_deltas h deltas)) o → o' ≡ query_out h session asked snapshots deltas o
+      pub query_bytes : (o o' : Bytes) → o' ≡ out_after (Ok tt) (merged_last d (held_deltas h deltas)) o → o' ≡ query_out h session asked snapshots deltas o
       unfolding query_out
       query_bytes o o' j = rw (← e, q) (rw i at j)
 

@@ -4,63 +4,20 @@ use mathlib.Core.Path.{◌≡◌, refl, sym, ap, ◌∙◌}
 use mathlib.Core.List.{List, [], ◌∷◌}
 use mathlib.Core.Bool.{Bool, true, false, not, ◌&&◌}
 use native.Mathlib.Omega.{arith}
-use lib.Dec.{leb, eqb}
+use lib.Dec.{leb}
 use lib.ListN.{length, get_or, take, drop, length-drop}
 use lib.Seq.{drop-cons, drop-drop}
-use borrow.Author.Tests.{not-true, not-false, leb-true, leb-false, le-leb, lt-leb, ne_eqb}
+use borrow.Author.Tests.{not-true, not-false, leb-true, leb-false, le-leb, lt-leb}
 use Rattle.order.proofs.Never.{never}
-use Rattle.body.specs.declared.tag.Form.{Form}
 use Rattle.body.specs.declared.tag.Form.TheVariants.{Snapshot, Delta}
-use Rattle.field.specs.declared.verdict.Verdict.{Verdict}
-use Rattle.field.specs.declared.verdict.Verdict.TheVariants as verdict
-use Rattle.field.specs.Verdict.{verdict}
 use Rattle.payload.specs.Content.{Bytes}
 use Rattle.payload.specs.Limit.{limit}
 use Rattle.past.specs.declared.state.History.{History}
 use Rattle.past.specs.Store.{total, cuts, held_lengths, held_deltas, held_snapshot}
-use Rattle.past.specs.WellFormed.{is_good, every, good_keep, in_range, good_serial, good_start, well_formed}
+use Rattle.past.specs.WellFormed.{is_good, every, in_range, good_serial, good_start, well_formed}
 use Rattle.history.specs.Check.{good_state, good_snapshot, good_runs, good_deltas}
 
 -- ---- the state
-
-module _ (keep : ℕ) where
-  pub keep_low : keep < 1 → false ≡ good_keep keep
-  keep_low h = rw (lt-leb 1 keep h)
-
-  pub keep_high : 1 ≤ keep → leb keep 64 ≡ good_keep keep
-  keep_high h = rw (le-leb 1 keep h)
-
-pub ruleset keeping = (keep_low, keep_high)
-
-module _ (h : History) (t : Bool) (e : t ≡ good_keep h.keep) where
-  pub range_keep : not t ≡ true → false ≡ in_range h
-  range_keep q = rw (← e, not-true t q)
-
-  pub range_count : not t ≡ false → leb h.n h.keep ≡ in_range h
-  range_count q = rw (← e, not-false t q)
-
-pub ruleset ranging = (range_keep, range_count)
-
-module _ (h : History) where
-  pub serial_held : h.active ≡ true → (h.n ≡ 0 → ⊥) → true ≡ good_serial h
-  serial_held a n = rw (a, ne_eqb h.n 0 n)
-
-  pub serial_none : h.active ≡ true → h.n ≡ 0 → eqb h.newest.0 h.start.0 ≡ good_serial h
-  serial_none a n = rw (a, n)
-
-  pub serial_inactive : h.active ≡ false → eqb h.newest.0 h.start.0 ≡ good_serial h
-  serial_inactive a = rw a
-
-  pub start_active : h.active ≡ true → true ≡ good_start h
-  start_active a = rw a
-
-  pub start_holds : h.active ≡ false → (h.n ≡ 0 → ⊥) → false ≡ good_start h
-  start_holds a n = rw (a, ne_eqb h.n 0 n)
-
-  pub start_empty : h.active ≡ false → h.n ≡ 0 → eqb h.snapshot 0 ≡ good_start h
-  start_empty a n = rw (a, n)
-
-pub ruleset starting = (serial_held, serial_none, serial_inactive, start_active, start_holds, start_empty)
 
 module _ (h : History) (t : Bool) (e : t ≡ in_range h) where
   pub state_range : not t ≡ true → false ≡ good_state h
@@ -79,21 +36,6 @@ module _ (h : History) (t : Bool) (e : t ≡ in_range h) where
 pub ruleset stating = (state_range, state_serial, state_start)
 
 -- ---- the stores
-
-module _ (form : Form) (s : Bytes) (v : Verdict) (e : v ≡ verdict form s) where
-  pub good_fine : v ≡ verdict.Fine → true ≡ is_good form s
-  good_fine d = rw (← e, d)
-
-  pub good_bad : (at : ℕ) → v ≡ verdict.Bad at → false ≡ is_good form s
-  good_bad at d = rw (← e, d)
-
-  pub good_senseless : (at : ℕ) → v ≡ verdict.Senseless at → false ≡ is_good form s
-  good_senseless at d = rw (← e, d)
-
-  pub good_low : (at : ℕ) → v ≡ verdict.NotAbove at → false ≡ is_good form s
-  good_low at d = rw (← e, d)
-
-pub ruleset judging = (good_fine, good_bad, good_senseless, good_low)
 
 module _ (n : ℕ) (s : Bytes) (t : Bool) (e : t ≡ leb (length s) (limit Snapshot)) where
   pub snapshot_long : not t ≡ true → false ≡ good_snapshot n s

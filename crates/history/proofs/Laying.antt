@@ -1,11 +1,11 @@
 -- Laws of the two lent stores.
-use Prim.Native.Nat.{ℕ, suc, ◌+◌, ◌-◌, ◌≤◌, ◌<◌}
-use mathlib.Core.Path.{◌≡◌, refl, sym, ap, ◌∙◌}
-use mathlib.Core.List.{[], ◌∷◌, ◌++◌, append-nil}
+use Prim.Native.Nat.{ℕ, ◌+◌, ◌-◌, ◌≤◌}
+use mathlib.Core.Path.{◌≡◌, sym, ap, ◌∙◌}
+use mathlib.Core.List.{[], ◌++◌, append-nil}
 use native.Mathlib.Omega.{arith}
 use native.Mathlib.Nat.{zero-add}
-use lib.ListN.{length, get_or, take, drop, set, length-set, length-take, length-drop, length-append, take-append-drop, drop_of_length-le}
-use lib.Seq.{sets, sets-eq, drop-cons, drop-drop, drop-set-lt, get_or-drop, take-length, take_all, take_at, drop_at}
+use lib.ListN.{length, get_or, take, drop, length-take, length-drop, length-append, drop_of_length-le}
+use lib.Seq.{sets, sets-eq, drop-drop, get_or-drop, take-length, take_all, take_at, drop_at}
 use Rattle.body.specs.declared.tag.Form.TheVariants.{Delta}
 use Rattle.payload.specs.Content.{Bytes}
 use Rattle.payload.specs.Payload.{encode}
@@ -19,13 +19,6 @@ use Rattle.history.specs.Push.{Pushes, laid}
 
 -- ---- bytes moved down
 
-part_turn : (s : Bytes) (f n k : ℕ) → k < n → f + n ≤ length s → take (n - k) (drop (f + k) s) ≡ get_or s (f + k) 0 ∷ take (n - (k + 1)) (drop (f + (k + 1)) s)
-part_turn s f n k p h =
-    let e : f + (k + 1) ≡ suc (f + k) = omega arith in
-    let d : n - k ≡ suc (n - (k + 1)) = omega arith in
-    let l : f + k < length s = omega arith in
-    rw (e, d, drop-cons s (f + k) 0 l)
-
 -- what is ahead is as it was, and to store what is left of the part gives what to store all of it gives
 pub record Down (s₀ : Bytes) (from len : ℕ) (s : Bytes) (k : ℕ) : Type 0 where
   pub within : from + len ≤ length s₀
@@ -34,48 +27,11 @@ pub record Down (s₀ : Bytes) (from len : ℕ) (s : Bytes) (k : ℕ) : Type 0 w
   pub ahead : drop k s ≡ drop k s₀
   pub left : sets s k (take (len - k) (drop (from + k) s₀)) ≡ sets s₀ 0 (take len (drop from s₀))
 
-pub down_start : (s : Bytes) (from len : ℕ) → from + len ≤ length s → Down s from len s 0
-down_start s from len h =
-    let a : from + 0 ≡ from = omega arith in
-    let b : len - 0 ≡ len = omega arith in
-    record { within = h; passed = omega arith; same = refl; ahead = refl; left = rw (a, b) }
-
-pub down_none : (s : Bytes) (from len : ℕ) → from ≡ 0 → s ≡ take len (drop from s) ++ drop len s
-down_none s from len e = rw e (sym (take-append-drop len s))
-
 module _ (s₀ : Bytes) (from len : ℕ) (s : Bytes) (k : ℕ) (d : Down s₀ from len s k) where
   read : get_or s (from + k) 0 ≡ get_or s₀ (from + k) 0
   read =
       let e : from + k ≡ k + from = omega arith in
       rw e (sym (get_or-drop k s from 0) ∙ ap (λ (l : Bytes). get_or l from 0) d.ahead ∙ get_or-drop k s₀ from 0)
-
-  pub down_end : len ≤ k → s ≡ take len (drop from s₀) ++ drop len s₀
-  down_end p =
-      let z : len - k ≡ 0 = omega arith in
-      let l : length (take len (drop from s₀)) ≡ len = simp (length-take, length-drop) (omega (arith, d.within)) in
-      (rw z at d.left) ∙ sets-eq (take len (drop from s₀)) s₀ 0 (omega (arith, d.within)) ∙ simp (zero-add, l)
-
-  module _ (p : k < len) where
-    pub down_from : from + k < length s
-    down_from = omega (arith, d.within, d.same)
-
-    pub down_to : k < length s
-    down_to = omega (arith, d.within, d.same)
-
-    pub down_again : Down s₀ from len (set s k (get_or s (from + k) 0)) (k + 1)
-    down_again =
-        let f : k + 1 ≡ suc k = omega arith in
-        let z : take (len - k) (drop (from + k) s₀) ≡ get_or s₀ (from + k) 0 ∷ take (len - (k + 1)) (drop (from + (k + 1)) s₀)
-        = part_turn s₀ from len k p d.within in
-        record {
-          within = d.within;
-          passed = omega arith;
-          same = length-set s k (get_or s (from + k) 0) ∙ d.same;
-          ahead = drop-set-lt (k + 1) s k (get_or s (from + k) 0) (omega arith) ∙ sym (drop-drop 1 k s) ∙ ap (drop 1) d.ahead ∙ drop-drop 1 k s₀;
-          left = rw (read, f) (rw f at (rw z at d.left));
-        }
-
-pub ruleset moving = (down_start, down_none, down_end, down_from, down_to, down_again)
 
 -- ---- a delta behind those that stay
 

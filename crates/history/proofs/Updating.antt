@@ -14,8 +14,6 @@ use Rattle.payload.specs.Limit.{limit}
 use Rattle.payload.specs.Payload.{encode}
 use Rattle.delta.specs.declared.refusal.Refusal.{Refusal}
 use Rattle.delta.specs.declared.refusal.Refusal.TheVariants.{IllFormed, StoreFull}
-use Rattle.delta.specs.declared.admit.Admitted.{Admitted}
-use Rattle.delta.specs.declared.admit.Admitted.TheVariants.{Yes, No}
 use Rattle.item.specs.declared.reading.Reading.TheVariants.{Withdrawn, Announced}
 use Rattle.item.specs.declared.sink.Counts.{Counts}
 use Rattle.delta.specs.Admission.{admit_one_of}
@@ -25,7 +23,6 @@ use Rattle.delta.specs.Answer.{difference_of, counts_of}
 use Rattle.delta.proofs.Answering.{runs_of, difference_is, counts_are}
 use Rattle.past.specs.declared.state.History.{History}
 use Rattle.history.specs.declared.push.Kept.{Kept}
-use Rattle.past.specs.declared.update.Update.TheVariants as updates
 use Rattle.past.specs.declared.update.Updated.{Updated}
 use Rattle.past.specs.Store.{total, held_snapshot}
 use Rattle.payload.specs.Written.{written_over}
@@ -36,11 +33,14 @@ use Rattle.history.specs.Push.{drops_of, kept_of, grown_of, laid, Ranged, Pushes
 use Rattle.history.specs.Stage.{update_admitted, Judged, Compares, Accepts, Renews, Extends, Does, Stores, first_of, first_store}
 use Rattle.past.proofs.Steps.{unchanged_step}
 use Rattle.history.proofs.Adding.{Formed, formed_is, admitted_short, renews_compares, stay_within, with_total, with_store, with_state}
+use Rattle.delta.specs.Admission.{Admitted}
+use Rattle.std.specs.Prelude.{Err, Ok}
+use Rattle.past.specs.declared.update.Update.TheVariants as outcome
 
 -- ---- admission
 
 module _ (h : History) (new s d : Bytes) (t : Bool) (e : t ≡ well_formed h s d) where
-  pub admit_ill : not t ≡ true → Judged h new s d (No IllFormed)
+  pub admit_ill : not t ≡ true → Judged h new s d (Err IllFormed)
   unfolding update_admitted
   admit_ill q = record { is = rw (← e, not-true t q) }
 
@@ -53,12 +53,12 @@ pub ruleset admitting = (admit_ill, admit_new)
 -- ---- the first snapshot
 
 module _ (h : History) (new s : Bytes) where
-  pub first_full : length s < length new → record { answer = updates.Refused StoreFull; history = h } ≡ first_of h new s
+  pub first_full : length s < length new → record { answer = Err StoreFull; history = h } ≡ first_of h new s
   unfolding first_of
   first_full l = rw (lt-leb (length new) (length s) l)
 
   pub first_made : (k : ℕ) → length new ≤ length s → k ≡ length new →
-      record { answer = updates.First; history = record { session = h.session; keep = h.keep; active = true; newest = h.newest; start = h.start; n = 0; snapshot = k; deltas = replicate 64 0 } } ≡ first_of h new s
+      record { answer = Ok outcome.First; history = record { session = h.session; keep = h.keep; active = true; newest = h.newest; start = h.start; n = 0; snapshot = k; deltas = replicate 64 0 } } ≡ first_of h new s
   unfolding first_of
   first_made k l e = rw (le-leb (length new) (length s) l, e)
 
@@ -156,13 +156,13 @@ module _ (h : History) (new s d : Bytes) (counts : Counts) (kept : Kept) (x : Ex
   extend_snapshots q e = e ∙ step_snapshots h new s d (add c) step
 
   extend_answer : (g : History) → length h.deltas ≡ 64 → g ≡ grown_of h kept.first (length new) counts.len →
-      record { answer = updates.Changed counts; history = g } ≡ update_of h new s d
+      record { answer = Ok (outcome.Changed counts); history = g } ≡ update_of h new s d
   extend_answer g l e =
       let y : g ≡ (update_at (add c) h new d).history = e ∙ rw (extend_first, len_is) (with_state h s d formed c l new) in
-      (λ i. record { answer = updates.Changed (x.counted i); history = y i }) ∙ step_answer h new s d (add c) step
+      (λ i. record { answer = Ok (outcome.Changed (x.counted i)); history = y i }) ∙ step_answer h new s d (add c) step
 
   pub extend_does : (g : History) (q p : Bytes) → Grows h kept.first (length new) counts.len g → Stores h new s d q p →
-      Does h new s d (record { answer = updates.Changed counts; history = g }) q p
+      Does h new s d (record { answer = Ok (outcome.Changed counts); history = g }) q p
   extend_does g q p e t = record { answer = extend_answer g e.full e.is; snapshots = t.snapshots; deltas = t.deltas }
 
   module _ (held : ℕ) (e : held ≡ h.snapshot) where
@@ -206,7 +206,7 @@ module _ (h : History) (new s d : Bytes) (r : Renews h new s d) where
       same : step_for h new s d ≡ unchanged
       same = unchanged_step h new s d r.formed r.admitted r.active (sym length_is ∙ z)
 
-      pub later_same : Does h new s d (record { answer = updates.Unchanged; history = h }) s d
+      pub later_same : Does h new s d (record { answer = Ok outcome.Unchanged; history = h }) s d
       later_same = step_does h new s d unchanged same
 
     module _ (z : counts.len ≡ 0 → ⊥) where
@@ -218,7 +218,7 @@ module _ (h : History) (new s d : Bytes) (r : Renews h new s d) where
         unfolding step_for
         long = rw (r.formed, r.admitted, r.active, differs, lt-leb (length new) (length s) l)
 
-        pub later_long : Does h new s d (record { answer = updates.Refused StoreFull; history = h }) s d
+        pub later_long : Does h new s d (record { answer = Err StoreFull; history = h }) s d
         later_long = step_does h new s d (refuse StoreFull) long
 
       module _ (l : length new ≤ length s) (kept : Kept) (k : kept ≡ kept_of h) where
@@ -243,7 +243,7 @@ module _ (h : History) (new s d : Bytes) (r : Renews h new s d) where
               let t : length d < total (map length (deltas_with h d (difference_of (held_snapshot h s) new))) = let y = with_total h s d (formed_is h s d r.formed) (difference_of (held_snapshot h s) new) in omega (arith, len_kept, length_is) in
               rw (r.formed, r.admitted, r.active, differs, le-leb (length new) (length s) l, lt-leb (total (map length (deltas_with h d (difference_of (held_snapshot h s) new)))) (length d) t)
 
-          pub later_full : Does h new s d (record { answer = updates.Refused StoreFull; history = h }) s d
+          pub later_full : Does h new s d (record { answer = Err StoreFull; history = h }) s d
           later_full = step_does h new s d (refuse StoreFull) full
 
   pub later_kept : (kept : Kept) → kept ≡ kept_of h → kept.len ≤ length d
@@ -257,27 +257,27 @@ pub ruleset lasting = (later_compares, later_ranged, later_kept, later_same, lat
 
 -- ---- the update
 
-admitted_both : (h : History) (new s d : Bytes) → update_admitted h new s d ≡ Yes → (well_formed h s d ≡ true) × (admit_one_of Snapshot new ≡ Yes)
+admitted_both : (h : History) (new s d : Bytes) → update_admitted h new s d ≡ Ok tt → (well_formed h s d ≡ true) × (admit_one_of Snapshot new ≡ Ok tt)
 unfolding update_admitted
 admitted_both h new s d = go (well_formed h s d) refl
   where
-    go : (t : Bool) → well_formed h s d ≡ t → cond t (admit_one_of Snapshot new) (No IllFormed) ≡ Yes → (well_formed h s d ≡ true) × (admit_one_of Snapshot new ≡ Yes)
+    go : (t : Bool) → well_formed h s d ≡ t → cond t (admit_one_of Snapshot new) (Err IllFormed) ≡ Ok tt → (well_formed h s d ≡ true) × (admit_one_of Snapshot new ≡ Ok tt)
     go true q e = (q, e)
     go false q e = never cc
 
-refused_step : (h : History) (new s d : Bytes) (r : Refusal) → update_admitted h new s d ≡ No r → step_for h new s d ≡ refuse r
+refused_step : (h : History) (new s d : Bytes) (r : Refusal) → update_admitted h new s d ≡ Err r → step_for h new s d ≡ refuse r
 unfolding update_admitted step_for
 refused_step h new s d r = go (well_formed h s d)
   where
-    go : (t : Bool) → cond t (admit_one_of Snapshot new) (No IllFormed) ≡ No r → cond t (admitted_step (admit_one_of Snapshot new) h new s d) (refuse IllFormed) ≡ refuse r
+    go : (t : Bool) → cond t (admit_one_of Snapshot new) (Err IllFormed) ≡ Err r → cond t (admitted_step (admit_one_of Snapshot new) h new s d) (refuse IllFormed) ≡ refuse r
     go true e = rw e
     go false e = cc
 
 module _ (h : History) (new s d : Bytes) (x : Admitted) (e : Judged h new s d x) where
-  pub update_refused : (r : Refusal) → x ≡ No r → Does h new s d (record { answer = updates.Refused r; history = h }) s d
+  pub update_refused : (r : Refusal) → x ≡ Err r → Does h new s d (record { answer = Err r; history = h }) s d
   update_refused r q = step_does h new s d (refuse r) (refused_step h new s d r (sym e.is ∙ q))
 
-  pub update_accepts : x ≡ Yes → Accepts h new s d
+  pub update_accepts : x ≡ Ok tt → Accepts h new s d
   update_accepts y = let b = admitted_both h new s d (sym e.is ∙ y) in record { formed = b.0; admitted = b.1 }
 
 pub ruleset updating = (update_refused, update_accepts)

@@ -1,9 +1,7 @@
 -- How far an update has come: what each part of it may assume, and what it leaves.
-use Rattle.std.specs.Prelude.{◌+◌, ◌≤◌, ◌≡◌, [], true, cond, length}
+use Rattle.std.specs.Prelude.{◌+◌, ◌≤◌, ◌≡◌, [], true, cond, length, Err, Ok}
 use Rattle.body.specs.declared.tag.Form.TheVariants.{Snapshot}
 use Rattle.payload.specs.Content.{Bytes}
-use Rattle.delta.specs.declared.admit.Admitted.{Admitted}
-use Rattle.delta.specs.declared.admit.Admitted.TheVariants.{Yes, No}
 use Rattle.delta.specs.declared.refusal.Refusal.TheVariants.{IllFormed}
 use Rattle.item.specs.declared.sink.Counts.{Counts}
 use Rattle.delta.specs.Admission.{admit_one_of}
@@ -16,6 +14,7 @@ use Rattle.past.specs.Store.{held_snapshot}
 use Rattle.past.specs.WellFormed.{well_formed}
 use Rattle.history.specs.Push.{kept_of}
 use Rattle.past.specs.Update.{first_step, update_at, update_of, snapshots_at, update_snapshots, update_deltas}
+use Rattle.delta.specs.Admission.{Admitted}
 
 -- a good held snapshot and a good new one
 pub record Compares (h : History) (new snapshots : Bytes) : Type 0 where
@@ -24,7 +23,7 @@ pub record Compares (h : History) (new snapshots : Bytes) : Type 0 where
 
 -- 7, then 10, 1, 12 and 2 of the new snapshot
 unfoldable pub update_admitted : History → Bytes → Bytes → Bytes → Admitted
-update_admitted h new snapshots deltas = cond (well_formed h snapshots deltas) (admit_one_of Snapshot new) (No IllFormed)
+update_admitted h new snapshots deltas = cond (well_formed h snapshots deltas) (admit_one_of Snapshot new) (Err IllFormed)
 
 pub record Judged (h : History) (new snapshots deltas : Bytes) (r : Admitted) : Type 0 where
   pub is : r ≡ update_admitted h new snapshots deltas
@@ -32,12 +31,12 @@ pub record Judged (h : History) (new snapshots deltas : Bytes) (r : Admitted) : 
 -- a well-formed history gets a snapshot that is admitted
 pub record Accepts (h : History) (new snapshots deltas : Bytes) : Type 0 where
   pub formed : well_formed h snapshots deltas ≡ true
-  pub admitted : admit_one_of Snapshot new ≡ Yes
+  pub admitted : admit_one_of Snapshot new ≡ Ok tt
 
 -- the history is active
 pub record Renews (h : History) (new snapshots deltas : Bytes) : Type 0 where
   pub formed : well_formed h snapshots deltas ≡ true
-  pub admitted : admit_one_of Snapshot new ≡ Yes
+  pub admitted : admit_one_of Snapshot new ≡ Ok tt
   pub active : h.active ≡ true
 
 -- it is a change, and both stores have room

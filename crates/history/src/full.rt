@@ -4,8 +4,7 @@ ghost use Rattle.past.specs.Full.{full_of};
 
 use crate::well_formed::well_formed;
 use delta::refusal::Refusal;
-use merged::lengths::wide;
-use past::full::{Full, FullAnswer};
+use past::full::Full;
 use past::state::History;
 use serial::{Serial, Session, session16};
 
@@ -17,13 +16,12 @@ pub fn full_answer(history: History, snapshots: &[u8], deltas: &[u8]) -> Full
         return Full {
             session: Session(0),
             serial: Serial(0),
-            answer: FullAnswer::Refused(Refusal::IllFormed),
+            answer: Err(Refusal::IllFormed),
         };
     }
-    let serial = history.newest;
     Full {
         session: session16(history.session),
-        serial,
-        answer: FullAnswer::Held(wide(history.snapshot)),
+        serial: history.newest,
+        answer: Ok(history.snapshot as usize),
     }
 }

@@ -10,10 +10,9 @@ use serial::{Serial, Session, session16};
 pub fn notify(history: History) -> Notice
     ensures { result ≡ notify_of history }
 {
-    let serial = history.newest;
     Notice {
         session: session16(history.session),
-        serial,
+        serial: history.newest,
     }
 }
 

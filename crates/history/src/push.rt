@@ -2,7 +2,7 @@
 ghost use Rattle.std.specs.Prelude.{◌≡◌, ◌-◌, ◌^◌, ◌<◌, ◌≤◌, length};
 ghost use Rattle.history.specs.Push.{drops_of, kept_of, lengths_with, Ranged, Grows};
 
-use merged::lengths::{sum_lengths, wide};
+use merged::lengths::sum_lengths;
 use past::state::History;
 use serial::next;
 
@@ -43,7 +43,7 @@ pub(crate) fn kept_of(history: History) -> Kept
     let first = drops(history);
     let lens = history.deltas;
     let from = sum_lengths(lens, 0, first);
-    let len = sum_lengths(lens, first, wide(history.n));
+    let len = sum_lengths(lens, first, history.n as usize);
     Kept { first, from, len }
 }
 
@@ -54,10 +54,8 @@ fn push_length(lens: [u32; 64], first: usize, n: usize, len: u32) -> [u32; 64]
 {
     let count = n - first;
     let mut next = [0u32; 64];
-    let mut i = 0;
-    while i < count {
+    for i in 0..count {
         next[i] = lens[first + i];
-        i += 1;
     }
     next[count] = len;
     next
@@ -69,7 +67,7 @@ pub(crate) fn grown(history: History, first: usize, snapshot: usize, delta: usiz
     ensures { Grows history first snapshot delta result }
 {
     let lens = history.deltas;
-    let n = wide(history.n);
+    let n = history.n as usize;
     let deltas = push_length(lens, first, n, narrow(delta));
     let newest = next(history.newest);
     let start = history.start;

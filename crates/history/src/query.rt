@@ -1,20 +1,16 @@
 // The query of a serial.
 ghost use Rattle.std.specs.Prelude.{◌≡◌, ◌≤◌, length};
-ghost use Rattle.delta.specs.declared.admit.Admitted.TheVariants.{Yes};
 ghost use Rattle.delta.specs.Answer.{out_after};
 ghost use Rattle.past.specs.Store.{held_deltas};
 ghost use Rattle.merged.specs.Place.{Stored};
 ghost use Rattle.past.specs.Query.{is_served, is_session, ask_admitted, query_admitted, merged_last, refused_with, query_at, query_of, query_out};
 
 use crate::well_formed::well_formed;
-use delta::admit::Admitted;
 use delta::refusal::Refusal;
 use merged::last::merged_last;
-use merged::lengths::wide;
-use past::query::{Answer, Queried};
+use past::query::Queried;
 use past::state::History;
 use serial::{Serial, Session, distance, session16};
-use walk::walk::Output;
 
 // A refused query: other numbers 0.
 fn refused(refusal: Refusal) -> Queried
@@ -23,7 +19,7 @@ fn refused(refusal: Refusal) -> Queried
     Queried {
         session: Session(0),
         serial: Serial(0),
-        answer: Answer::Refused(refusal),
+        answer: Err(refusal),
     }
 }
 
@@ -31,8 +27,7 @@ fn refused(refusal: Refusal) -> Queried
 pub fn is_session(history: History, session: Session) -> bool
     ensures { result ≡ is_session history session }
 {
-    let own = session16(history.session);
-    session.0 == own.0
+    session.0 == session16(history.session).0
 }
 
 // Whether, with n deltas, a serial is served that is d steps before the newest.
@@ -46,18 +41,21 @@ pub fn is_served(start: Serial, n: u32, asked: Serial, d: u32) -> bool
 }
 
 // Refusals 5 and 6.
-pub fn asks(history: History, session: Session, asked: Serial) -> Admitted
+pub fn asks(history: History, session: Session, asked: Serial) -> Result<(), Refusal>
     ensures { result ≡ ask_admitted history session asked }
 {
     if !is_session(history, session) {
-        return Admitted::No(Refusal::OtherSession);
+        return Err(Refusal::OtherSession);
     }
-    let newest = history.newest;
-    let start = history.start;
-    if !is_served(start, history.n, asked, distance(newest, asked)) {
-        return Admitted::No(Refusal::NotServed);
+    if !is_served(
+        history.start,
+        history.n,
+        asked,
+        distance(history.newest, asked),
+    ) {
+        return Err(Refusal::NotServed);
     }
-    Admitted::Yes
+    Ok(())
 }
 
 // Refusal 7, then 5 and 6.
@@ -67,11 +65,11 @@ fn admit_query(
     asked: Serial,
     snapshots: &[u8],
     deltas: &[u8],
-) -> Admitted
+) -> Result<(), Refusal>
     ensures { result ≡ query_admitted history session asked snapshots.now deltas.now }
 {
     if !well_formed(history, snapshots, deltas) {
-        return Admitted::No(Refusal::IllFormed);
+        return Err(Refusal::IllFormed);
     }
     asks(history, session, asked)
 }
@@ -79,20 +77,18 @@ fn admit_query(
 // The last d deltas of a history, merged.
 pub fn serve(history: History, d: u32, deltas: &[u8], out: &mut [u8]) -> Queried
     requires { Stored deltas.now history.deltas history.n × (d ≤ history.n) }
-    ensures { (result ≡ query_at Yes history (merged_last d (held_deltas history deltas.now)) (length out.old)) × (out.new ≡ out_after Yes (merged_last d (held_deltas history deltas.now)) out.old) }
+    ensures { (result ≡ query_at (Ok tt) history (merged_last d (held_deltas history deltas.now)) (length out.old)) × (out.new ≡ out_after (Ok tt) (merged_last d (held_deltas history deltas.now)) out.old) }
 {
     let lengths = history.deltas;
-    let n = wide(history.n);
-    if let Output::Written(counts) = merged_last(deltas, lengths, n, wide(d), out) {
-        let session = session16(history.session);
-        let serial = history.newest;
-        return Queried {
-            session,
-            serial,
-            answer: Answer::Served(counts),
-        };
+    let n = history.n as usize;
+    let Some(counts) = merged_last(deltas, lengths, n, d as usize, out) else {
+        return refused(Refusal::NoRoom);
+    };
+    Queried {
+        session: session16(history.session),
+        serial: history.newest,
+        answer: Ok(counts),
     }
-    refused(Refusal::NoRoom)
 }
 
 // What leads from the serial asked for to the newest: the deltas since, merged.
@@ -106,9 +102,8 @@ pub fn query(
 ) -> Queried
     ensures { (result ≡ query_of history session asked snapshots.now deltas.now (length out.old)) × (out.new ≡ query_out history session asked snapshots.now deltas.now out.old) }
 {
-    if let Admitted::No(refusal) = admit_query(history, session, asked, snapshots, deltas) {
+    if let Err(refusal) = admit_query(history, session, asked, snapshots, deltas) {
         return refused(refusal);
     }
-    let newest = history.newest;
-    serve(history, distance(newest, asked), deltas, out)
+    serve(history, distance(history.newest, asked), deltas, out)
 }

@@ -7,7 +7,7 @@ ghost use Rattle.history.specs.Push.{Pushes, laid};
 use body::tag::Form;
 use item::copy::copy;
 use item::place::Part;
-use item::reading::Reading;
+use item::reading::{Reading, Run};
 use walk::walk::put_merge;
 
 // The len bytes at from go to the start; the bytes past them stay.
@@ -18,11 +18,7 @@ fn move_down(s: &mut [u8], from: usize, len: usize)
     if from == 0 {
         return;
     }
-    let mut k = 0;
-    while k < len {
-        s[k] = s[from + k];
-        k += 1;
-    }
+    s.copy_within(from..from + len, 0);
 }
 
 // The deltas that stay go to the start of their store, and the difference of two snapshots behind them.
@@ -33,10 +29,14 @@ pub(crate) fn push_delta(old: &[u8], new: &[u8], from: usize, kept: usize, delta
     move_down(deltas, from, kept);
     put_merge(
         Form::Delta,
-        Reading::Withdrawn,
-        old,
-        Reading::Announced,
-        new,
+        Run {
+            reading: Reading::Withdrawn,
+            bytes: old,
+        },
+        Run {
+            reading: Reading::Announced,
+            bytes: new,
+        },
         &mut deltas[kept..],
     );
 }

@@ -11,21 +11,20 @@ use crate::push::{Kept, grown, kept_of, narrow};
 use crate::stores::{hold, push_delta};
 use crate::well_formed::well_formed;
 use body::tag::Form;
-use delta::admit::{Admitted, admit_one};
+use delta::admit::admit_one;
 use delta::refusal::Refusal;
-use item::reading::Reading;
+use item::reading::{Reading, Run};
 use item::sink::Counts;
-use merged::lengths::wide;
 use past::state::History;
 use past::update::{Update, Updated};
 use walk::walk::measure;
 
 // Refusal 7, then 10, 1, 12 and 2 of the new snapshot.
-fn admitted(history: History, new: &[u8], snapshots: &[u8], deltas: &[u8]) -> Admitted
+fn admitted(history: History, new: &[u8], snapshots: &[u8], deltas: &[u8]) -> Result<(), Refusal>
     ensures { Judged history new.now snapshots.now deltas.now result }
 {
     if !well_formed(history, snapshots, deltas) {
-        return Admitted::No(Refusal::IllFormed);
+        return Err(Refusal::IllFormed);
     }
     admit_one(Form::Snapshot, new)
 }
@@ -37,27 +36,20 @@ fn first(history: History, new: &[u8], snapshots: &mut [u8]) -> Updated
 {
     if snapshots.len() < new.len() {
         return Updated {
-            answer: Update::Refused(Refusal::StoreFull),
+            answer: Err(Refusal::StoreFull),
             history,
         };
     }
     hold(new, snapshots);
-    let newest = history.newest;
-    let start = history.start;
-    let deltas = [0u32; 64];
-    let state = History {
-        session: history.session,
-        keep: history.keep,
-        active: true,
-        newest,
-        start,
-        n: 0,
-        snapshot: narrow(new.len()),
-        deltas,
-    };
     Updated {
-        answer: Update::First,
-        history: state,
+        answer: Ok(Update::First),
+        history: History {
+            active: true,
+            n: 0,
+            snapshot: narrow(new.len()),
+            deltas: [0u32; 64],
+            ..history
+        },
     }
 }
 
@@ -66,13 +58,17 @@ fn difference(history: History, new: &[u8], snapshots: &[u8]) -> Counts
     requires { Compares history new.now snapshots.now }
     ensures { result ≡ counts_of (difference_of (held_snapshot history snapshots.now) new.now) }
 {
-    let held = wide(history.snapshot);
+    let held = history.snapshot as usize;
     measure(
         Form::Delta,
-        Reading::Withdrawn,
-        &snapshots[0..held],
-        Reading::Announced,
-        new,
+        Run {
+            reading: Reading::Withdrawn,
+            bytes: &snapshots[0..held],
+        },
+        Run {
+            reading: Reading::Announced,
+            bytes: new,
+        },
     )
 }
 
@@ -88,7 +84,7 @@ fn put_change(
     requires { Extends history new.now snapshots.old deltas.old counts kept }
     ensures { Stores history new.now snapshots.old deltas.old snapshots.new deltas.new }
 {
-    let held = wide(history.snapshot);
+    let held = history.snapshot as usize;
     push_delta(&snapshots[0..held], new, kept.from, kept.len, deltas);
     hold(new, snapshots);
 }
@@ -108,7 +104,7 @@ fn extend(
     put_change(history, new, snapshots, deltas, counts, kept);
     let state = grown(history, kept.first, new.len(), counts.len);
     Updated {
-        answer: Update::Changed(counts),
+        answer: Ok(Update::Changed(counts)),
         history: state,
     }
 }
@@ -121,20 +117,20 @@ fn later(history: History, new: &[u8], snapshots: &mut [u8], deltas: &mut [u8]) 
     let counts = difference(history, new, snapshots);
     if counts.len == 0 {
         return Updated {
-            answer: Update::Unchanged,
+            answer: Ok(Update::Unchanged),
             history,
         };
     }
     let kept = kept_of(history);
     if snapshots.len() < new.len() {
         return Updated {
-            answer: Update::Refused(Refusal::StoreFull),
+            answer: Err(Refusal::StoreFull),
             history,
         };
     }
     if deltas.len() - kept.len < counts.len {
         return Updated {
-            answer: Update::Refused(Refusal::StoreFull),
+            answer: Err(Refusal::StoreFull),
             history,
         };
     }
@@ -158,14 +154,14 @@ fn settle(
     new: &[u8],
     snapshots: &mut [u8],
     deltas: &mut [u8],
-    answer: Admitted,
+    answer: Result<(), Refusal>,
 ) -> Updated
     requires { Judged history new.now snapshots.old deltas.old answer }
     ensures { Does history new.now snapshots.old deltas.old result snapshots.new deltas.new }
 {
-    if let Admitted::No(r) = answer {
+    if let Err(refusal) = answer {
         return Updated {
-            answer: Update::Refused(r),
+            answer: Err(refusal),
             history,
         };
     }

@@ -5,8 +5,6 @@ ghost use Rattle.history.specs.Check.{good_state, good_snapshot, good_runs, good
 
 use body::tag::Form;
 use delta::admit::within_limit;
-use field::verdict::Verdict;
-use merged::lengths::wide;
 use past::state::History;
 use verdict::check::check;
 
@@ -14,86 +12,54 @@ use verdict::check::check;
 pub fn good_keep(keep: u32) -> bool
     ensures { result ≡ good_keep keep }
 {
-    if keep < 1 {
-        return false;
-    }
-    keep <= 64
+    1 <= keep && keep <= 64
 }
 
 // Whether keep and n are in range.
 fn in_range(history: History) -> bool
     ensures { result ≡ in_range history }
 {
-    if !good_keep(history.keep) {
-        return false;
-    }
-    history.n <= history.keep
+    good_keep(history.keep) && history.n <= history.keep
 }
 
 // Inactive or n = 0: whether F is the start serial.
 fn good_serial(history: History) -> bool
     ensures { result ≡ good_serial history }
 {
-    let newest = history.newest;
-    let start = history.start;
-    if history.active {
-        if history.n != 0 {
-            return true;
-        }
-        return newest.0 == start.0;
+    if history.active && history.n != 0 {
+        return true;
     }
-    newest.0 == start.0
+    history.newest.0 == history.start.0
 }
 
 // Inactive: whether nothing is held.
 fn good_start(history: History) -> bool
     ensures { result ≡ good_start history }
 {
-    if history.active {
-        return true;
-    }
-    if history.n != 0 {
-        return false;
-    }
-    history.snapshot == 0
+    history.active || history.n == 0 && history.snapshot == 0
 }
 
 // Whether the state is well formed by itself.
 fn good_state(history: History) -> bool
     ensures { result ≡ good_state history }
 {
-    if !in_range(history) {
-        return false;
-    }
-    if !good_serial(history) {
-        return false;
-    }
-    good_start(history)
+    in_range(history) && good_serial(history) && good_start(history)
 }
 
 // Whether s is good.
 fn is_good(form: Form, s: &[u8]) -> bool
     ensures { result ≡ is_good form s.now }
 {
-    match check(form, s) {
-        Verdict::Fine => true,
-        Verdict::Bad { at: _ } => false,
-        Verdict::Senseless { at: _ } => false,
-        Verdict::NotAbove { at: _ } => false,
-    }
+    check(form, s).is_ok()
 }
 
 // Whether the first n bytes of the snapshot store are a good snapshot.
 fn good_snapshot(n: usize, snapshots: &[u8]) -> bool
     ensures { result ≡ good_snapshot n snapshots.now }
 {
-    if !within_limit(Form::Snapshot, snapshots) {
-        return false;
-    }
-    if snapshots.len() < n {
-        return false;
-    }
-    is_good(Form::Snapshot, &snapshots[0..n])
+    within_limit(Form::Snapshot, snapshots)
+        && n <= snapshots.len()
+        && is_good(Form::Snapshot, &snapshots[..n])
 }
 
 // Whether n deltas of these lengths lie one behind the other in the delta store, each good.
@@ -102,9 +68,8 @@ fn good_runs(lens: [u32; 64], n: usize, deltas: &[u8]) -> bool
     ensures { result ≡ good_runs (take n lens) deltas.now }
 {
     let mut from = 0;
-    let mut k = 0;
-    while k < n {
-        let len = wide(lens[k]);
+    for k in 0..n {
+        let len = lens[k] as usize;
         if deltas.len() - from < len {
             return false;
         }
@@ -113,7 +78,6 @@ fn good_runs(lens: [u32; 64], n: usize, deltas: &[u8]) -> bool
             return false;
         }
         from = to;
-        k += 1;
     }
     true
 }
@@ -123,22 +87,14 @@ fn good_deltas(lens: [u32; 64], n: usize, deltas: &[u8]) -> bool
     requires { n ≤ 64 }
     ensures { result ≡ good_deltas (take n lens) deltas.now }
 {
-    if !within_limit(Form::Delta, deltas) {
-        return false;
-    }
-    good_runs(lens, n, deltas)
+    within_limit(Form::Delta, deltas) && good_runs(lens, n, deltas)
 }
 
 // Whether a history, lent with its stores, is well formed.
 pub fn well_formed(history: History, snapshots: &[u8], deltas: &[u8]) -> bool
     ensures { result ≡ well_formed history snapshots.now deltas.now }
 {
-    if !good_state(history) {
-        return false;
-    }
-    if !good_snapshot(wide(history.snapshot), snapshots) {
-        return false;
-    }
-    let lens = history.deltas;
-    good_deltas(lens, wide(history.n), deltas)
+    good_state(history)
+        && good_snapshot(history.snapshot as usize, snapshots)
+        && good_deltas(history.deltas, history.n as usize, deltas)
 }

@@ -9,8 +9,6 @@ use Rattle.order.proofs.Never.{never}
 use Rattle.serial.specs.declared.Serial.{Serial}
 use Rattle.payload.specs.Content.{Bytes}
 use Rattle.past.specs.declared.state.History.{History}
-use Rattle.past.specs.declared.create.Creation.{Creation}
-use Rattle.past.specs.declared.create.Creation.TheVariants as creation
 use Rattle.past.specs.Create.{create_of}
 use Rattle.past.specs.Update.{Step, refuse, first, unchanged, add, step_for, update_at, update_of, update_snapshots, update_deltas}
 use Rattle.past.specs.Query.{query_of, query_out}
@@ -22,6 +20,8 @@ use Rattle.host.specs.declared.state.State.{State}
 use Rattle.host.specs.Told.{flat_creation, state_after, made_updated, told_queried, told_full}
 use Rattle.host.specs.State.{history_of, mark_of, state_of}
 use Rattle.host.specs.Run.{Kept, answer, told, whole, notice, mark, handed_of, kept_after, created_kept, kept_run, flat_reply, Hosted, EveryHosted}
+use Rattle.delta.specs.Admission.{Admitted}
+use Rattle.std.specs.Prelude.{Err, Ok}
 
 -- an active mark is handed back as it was
 mark_back : (b : Bool) → not (eqb (mark_of b) 0) ≡ b
@@ -101,9 +101,9 @@ hosted_at session keep start k r p e = record {
 }
 
 -- kind 1 says that the history was created
-done_of : (c : Creation) (start : Serial) → (flat_creation c start).kind ≡ 1 → c ≡ creation.Done
-done_of creation.Done start e = refl
-done_of (creation.Refused r) start e = never e
+done_of : (c : Admitted) (start : Serial) → (flat_creation c start).kind ≡ 1 → c ≡ Ok tt
+done_of (Ok tt) start e = refl
+done_of (Err r) start e = never e
 
 -- demand 3, second part, over every run of the exported calls from a taplevung_create that answers kind 1
 pub hosted : EveryHosted

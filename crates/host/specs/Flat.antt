@@ -1,15 +1,10 @@
 -- The numbers that the C interface hands back for each answer.
-use Rattle.std.specs.Prelude.{ℕ}
+use Rattle.delta.specs.Answer.{Constructed, Merged}
+use Rattle.std.specs.Prelude.{ℕ, Err, Ok, Result, None, Option, Some}
 use Rattle.serial.specs.declared.Serial.{Serial}
 use Rattle.serial.specs.Serial.{zero_serial}
 use Rattle.delta.specs.declared.refusal.Refusal.{Refusal}
 use Rattle.item.specs.declared.sink.Counts.{Counts}
-use Rattle.delta.specs.declared.construct.Constructed.{Constructed}
-use Rattle.delta.specs.declared.construct.Constructed.TheVariants as constructed
-use Rattle.delta.specs.declared.merge.Merged.{Merged}
-use Rattle.delta.specs.declared.merge.Merged.TheVariants as merged
-use Rattle.delta.specs.declared.apply.Applied.{Applied}
-use Rattle.delta.specs.declared.apply.Applied.TheVariants as applied
 use Rattle.delta.specs.Refusal.{number_of, argument_of, offset_of}
 use Rattle.host.specs.declared.answer.Answer.{Answer}
 
@@ -44,16 +39,16 @@ of_length len = record { len = len; announced = 0; withdrawn = 0 }
 
 -- 1 a delta, 2 no change
 abbrev pub flat_constructed : Constructed → Answer
-flat_constructed (constructed.Delta serial c) = wrote 1 serial c
-flat_constructed constructed.NoChange = wrote 2 zero_serial (of_length 0)
-flat_constructed (constructed.Refused r) = refused r
+flat_constructed (Ok (Some (serial, c))) = wrote 1 serial c
+flat_constructed (Ok None) = wrote 2 zero_serial (of_length 0)
+flat_constructed (Err r) = refused r
 
 -- 1 a delta
 abbrev pub flat_merged : Merged → Answer
-flat_merged (merged.Delta serial c) = wrote 1 serial c
-flat_merged (merged.Refused r) = refused r
+flat_merged (Ok (serial, c)) = wrote 1 serial c
+flat_merged (Err r) = refused r
 
 -- 1 a snapshot, by its length
-abbrev pub flat_applied : Applied → Answer
-flat_applied (applied.Snapshot len) = wrote 1 zero_serial (of_length len)
-flat_applied (applied.Refused r) = refused r
+abbrev pub flat_applied : Result ℕ Refusal → Answer
+flat_applied (Ok len) = wrote 1 zero_serial (of_length len)
+flat_applied (Err r) = refused r

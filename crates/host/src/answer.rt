@@ -2,9 +2,6 @@
 ghost use Rattle.std.specs.Prelude.{◌≡◌};
 ghost use Rattle.host.specs.Flat.{refused, wrote, of_length, flat_constructed, flat_merged, flat_applied};
 
-use delta::apply::Applied;
-use delta::construct::Constructed;
-use delta::merge::Merged;
 use delta::refusal::Refusal;
 use item::sink::Counts;
 use serial::Serial;
@@ -55,33 +52,33 @@ pub fn wrote_as(kind: u32, serial: Serial, c: Counts) -> Answer
 }
 
 // A delta, "no change", or a refusal.
-pub fn constructed_as(c: Constructed) -> Answer
+pub fn constructed_as(c: Result<Option<(Serial, Counts)>, Refusal>) -> Answer
     ensures { result ≡ flat_constructed c }
 {
     match c {
-        Constructed::Delta(serial, counts) => wrote_as(1, serial, counts),
-        Constructed::NoChange => wrote_as(2, Serial(0), of_length(0)),
-        Constructed::Refused(r) => refused_as(r),
+        Ok(Some((serial, counts))) => wrote_as(1, serial, counts),
+        Ok(None) => wrote_as(2, Serial(0), of_length(0)),
+        Err(r) => refused_as(r),
     }
 }
 
 // A delta or a refusal.
-pub fn merged_as(m: Merged) -> Answer
+pub fn merged_as(m: Result<(Serial, Counts), Refusal>) -> Answer
     ensures { result ≡ flat_merged m }
 {
     match m {
-        Merged::Delta(serial, counts) => wrote_as(1, serial, counts),
-        Merged::Refused(r) => refused_as(r),
+        Ok((serial, counts)) => wrote_as(1, serial, counts),
+        Err(r) => refused_as(r),
     }
 }
 
 // A snapshot's length or a refusal.
-pub fn applied_as(p: Applied) -> Answer
+pub fn applied_as(p: Result<usize, Refusal>) -> Answer
     ensures { result ≡ flat_applied p }
 {
     match p {
-        Applied::Snapshot(len) => wrote_as(1, Serial(0), of_length(len)),
-        Applied::Refused(r) => refused_as(r),
+        Ok(len) => wrote_as(1, Serial(0), of_length(len)),
+        Err(r) => refused_as(r),
     }
 }
 

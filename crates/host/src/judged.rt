@@ -3,6 +3,8 @@ ghost use Rattle.std.specs.Prelude.{◌≡◌};
 ghost use Rattle.host.specs.Judged.{flat_judged};
 
 use crate::answer::{Answer, refused_as, wrote_as};
+use delta::refusal::Refusal;
+use judge::judge::Accepted;
 use serial::Session;
 use serial::timing::Timing;
 
@@ -14,31 +16,23 @@ pub struct Judged {
     pub timing: Timing,
 }
 
-pub fn judged_as(j: judge::judge::Judged) -> Judged
+pub fn judged_as(j: Result<Accepted, Refusal>) -> Judged
     ensures { result ≡ flat_judged j }
 {
     match j {
-        judge::judge::Judged::Accepted(session, serial, timing, counts) => {
-            let answer = wrote_as(1, serial, counts);
-            Judged {
-                answer,
-                session,
-                timing,
-            }
-        }
-        judge::judge::Judged::Refused(r) => {
-            let answer = refused_as(r);
-            let session = Session(0);
-            let timing = Timing {
+        Ok(a) => Judged {
+            answer: wrote_as(1, a.serial, a.counts),
+            session: a.session,
+            timing: a.times,
+        },
+        Err(r) => Judged {
+            answer: refused_as(r),
+            session: Session(0),
+            timing: Timing {
                 refresh: 0,
                 retry: 0,
                 expire: 0,
-            };
-            Judged {
-                answer,
-                session,
-                timing,
-            }
-        }
+            },
+        },
     }
 }

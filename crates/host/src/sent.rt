@@ -3,6 +3,7 @@ ghost use Rattle.std.specs.Prelude.{◌≡◌};
 ghost use Rattle.host.specs.Sent.{instead_of, flat_reply, keys_skipped, aspas_skipped, flat_sent};
 
 use crate::answer::{Answer, refused_as, wrote_as};
+use delta::refusal::Refusal;
 use item::sink::Counts;
 use serial::{Serial, Session};
 use wire::sent::Reply;
@@ -33,12 +34,12 @@ fn instead(kind: u32, number: u32, len: usize) -> Answer
     }
 }
 
-fn reply_as(reply: Reply, serial: Serial) -> Answer
+fn reply_as(reply: Result<Reply, Refusal>, serial: Serial) -> Answer
     ensures { result ≡ flat_reply reply serial }
 {
     match reply {
-        Reply::Refused(r) => refused_as(r),
-        Reply::Data(t) => {
+        Err(r) => refused_as(r),
+        Ok(Reply::Data(t)) => {
             let counts = Counts {
                 len: t.len,
                 announced: t.announced,
@@ -46,44 +47,37 @@ fn reply_as(reply: Reply, serial: Serial) -> Answer
             };
             wrote_as(1, serial, counts)
         }
-        Reply::Reset(len) => instead(2, 6, len),
-        Reply::Report(len) => instead(3, 5, len),
+        Ok(Reply::Reset(len)) => instead(2, 6, len),
+        Ok(Reply::Report(len)) => instead(3, 5, len),
     }
 }
 
-fn keys_skipped(reply: Reply) -> u64
+// Kept: this and the next are two columns of what C gets.
+fn keys_skipped(reply: Result<Reply, Refusal>) -> u64
     ensures { result ≡ keys_skipped reply }
 {
     match reply {
-        Reply::Refused(_) => 0,
-        Reply::Data(t) => t.keys as u64,
-        Reply::Reset(_) => 0,
-        Reply::Report(_) => 0,
+        Ok(Reply::Data(t)) => t.keys as u64,
+        Ok(Reply::Reset(_)) | Ok(Reply::Report(_)) | Err(_) => 0,
     }
 }
 
-fn aspas_skipped(reply: Reply) -> u64
+fn aspas_skipped(reply: Result<Reply, Refusal>) -> u64
     ensures { result ≡ aspas_skipped reply }
 {
     match reply {
-        Reply::Refused(_) => 0,
-        Reply::Data(t) => t.aspas as u64,
-        Reply::Reset(_) => 0,
-        Reply::Report(_) => 0,
+        Ok(Reply::Data(t)) => t.aspas as u64,
+        Ok(Reply::Reset(_)) | Ok(Reply::Report(_)) | Err(_) => 0,
     }
 }
 
 pub fn sent_as(s: wire::sent::Sent) -> Sent
     ensures { result ≡ flat_sent s }
 {
-    let reply = s.reply;
-    let serial = s.serial;
-    let session = s.session;
-    let answer = reply_as(reply, serial);
     Sent {
-        answer,
-        session,
-        keys: keys_skipped(reply),
-        aspas: aspas_skipped(reply),
+        answer: reply_as(s.reply, s.serial),
+        session: s.session,
+        keys: keys_skipped(s.reply),
+        aspas: aspas_skipped(s.reply),
     }
 }

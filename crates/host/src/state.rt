@@ -19,18 +19,17 @@ pub struct State {
     pub deltas: [u32; 64],
 }
 
+// Kept: a name that the specs share; `From` would hide which state it is of.
 pub fn history_of(s: State) -> History
     ensures { result ≡ history_of s }
 {
-    let newest = s.newest;
-    let start = s.start;
     let deltas = s.deltas;
     History {
         session: s.session,
         keep: s.keep,
         active: s.active != 0,
-        newest,
-        start,
+        newest: s.newest,
+        start: s.start,
         n: s.n,
         snapshot: s.snapshot,
         deltas,
@@ -47,16 +46,13 @@ fn mark(active: bool) -> u32
 pub fn state_of(h: History) -> State
     ensures { result ≡ state_of h }
 {
-    let newest = h.newest;
-    let start = h.start;
     let deltas = h.deltas;
-    let active = mark(h.active);
     State {
         session: h.session,
         keep: h.keep,
-        active,
-        newest,
-        start,
+        active: mark(h.active),
+        newest: h.newest,
+        start: h.start,
         n: h.n,
         snapshot: h.snapshot,
         deltas,

@@ -25,11 +25,11 @@ use Rattle.payload.specs.Content.{Bytes, action_of}
 use Rattle.item.specs.declared.place.Act.{Act}
 use Rattle.item.specs.declared.reading.Reading.{Reading}
 use Rattle.item.specs.declared.reading.Reading.TheVariants.{Withdrawn, Announced, Changes}
-use Rattle.item.specs.declared.reading.Read.TheVariants as read
 use Rattle.item.specs.Place.{change_in}
 use Rattle.item.specs.Reading.{item_as, form_of, read_as, act_place, Splits, Ready, Reads}
 use Rattle.item.proofs.Readings.{says_nil, says_cons}
 use Rattle.item.proofs.Places.{body_length, Entered, entered}
+use Rattle.std.specs.Prelude.{None, Some}
 
 -- the key of a field's item is the key of its cell
 key_as : (reading : Reading) (c : Cell) → (item_as reading c).key ≡ key_of (kind_of (form_of reading) c.tag) c.body
@@ -41,10 +41,10 @@ item_path : {x y : Item Bytes (Change Bytes)} → x.key ≡ y.key → x.val ≡ 
 item_path p q = λ i. record { key = p i; val = q i }
 
 module _ (reading : Reading) (s : Bytes) (at : ℕ) (g : Ready reading s at) (r : Field) (f : r ≡ field_at s at) where
-  pub read_end : r ≡ End → Reads reading s at read.End
+  pub read_end : r ≡ End → Reads reading s at None
   read_end e = record { fits = good_end s at r f e; is = says_nil (drop at s) reading (good_end s at r f e) }
 
-  pub read_cut : r ≡ Cut → Reads reading s at read.End
+  pub read_cut : r ≡ Cut → Reads reading s at None
   read_cut e = absurd (good_cut s at r f (form_of reading) g.good e)
 
   module _ (tag from to : ℕ) (e : r ≡ Whole tag from to) where
@@ -72,7 +72,7 @@ module _ (reading : Reading) (s : Bytes) (at : ℕ) (g : Ready reading s at) (r 
       read_splits = rw (action_is, place_is) said.splits
 
       pub read_one : (act : Act) → act ≡ act_place reading a s (record { from = key.to; to = to }) →
-          Reads reading s at (read.One (record { key = key; act = act; next = to }))
+          Reads reading s at (Some (record { key = key; act = act; next = to }))
       read_one act q =
           let c : Cell = record { tag = tag; body = part s from to } in
           let act_is : act ≡ act_place reading (action_of (tag_of (form_of reading) tag)) s (record { from = (key_place (kind_of (form_of reading) tag) from to).to; to = to })

@@ -11,8 +11,8 @@ use mir.Syntax.{w8}
 use lib.Dec.{leb, eqb}
 use lib.ListN.{length, get_or, take, drop, length-take, length-drop, get_or-eq_default}
 use lib.Seq.{get_or-take, get_or-drop, drop-drop, take-take}
-use Rattle.order.specs.declared.Ordering.{Ordering}
-use Rattle.order.specs.declared.Ordering.TheVariants.{Less, Equal, Greater}
+use Rattle.std.specs.declared.cmp.Ordering.{Ordering}
+use Rattle.std.specs.declared.cmp.Ordering.TheVariants.{Less, Equal, Greater}
 use Rattle.order.specs.Comparison.{flip, or_else, number, bytes}
 use Rattle.order.proofs.Never.{never}
 use Rattle.order.proofs.Comparison.{strings, less_number, equal_number, less≢greater}

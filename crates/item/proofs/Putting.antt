@@ -3,7 +3,7 @@ use Prim.Native.Nat.{ℕ, suc, ◌+◌, ◌/◌, ◌%◌, ◌^◌, ◌<◌, ◌�
 use mathlib.Core.Path.{◌≡◌, refl, sym, ap, ◌∙◌}
 use mathlib.Core.List.{[], ◌∷◌, ◌++◌}
 use native.Mathlib.Omega.{arith}
-use lib.ListN.{length, set, length-append}
+use lib.ListN.{length, length-append}
 use lib.Seq.{sets}
 use Rattle.body.specs.declared.tag.Form.{Form}
 use Rattle.body.specs.declared.tag.Form.TheVariants.{Snapshot, Delta}
@@ -54,10 +54,6 @@ counts_same : (c : Counts) (a b : Bytes) (act : Act) (size : ℕ) →
 counts_same c a b (Announce n) size = counts_path refl refl (omega arith)
 counts_same c a b (Withdraw p) size = counts_path refl (omega arith) refl
 counts_same c a b (Update p n) size = counts_path refl refl (omega arith)
-
-pub head_bytes : (o p q : Bytes) (i tag size : ℕ) → p ≡ set o i tag → q ≡ sets p (i + 1) (size / 256 ∷ size % 256 ∷ []) →
-    q ≡ sets o i (tag ∷ size / 256 ∷ size % 256 ∷ [])
-head_bytes o p q i tag size e d = let j : i + 1 ≡ suc i = omega arith in rw (← e, ← j) d
 
 module _ (a b : Bytes) (key : Key) (act : Act) (k : KeyIn a key) (f : ActFits a b act) where
   size_small : key_size key + values_size act < 65536

@@ -1,5 +1,4 @@
 -- Laws of reading a good run as changes.
-use Prim.Native.Nat.{ℕ, ◌+◌, ◌*◌}
 use mathlib.Core.Path.{◌≡◌, sym, ap, ◌∙◌}
 use mathlib.Core.List.{List, [], ◌∷◌, map}
 use Rattle.order.specs.Comparison.{bytes}
@@ -7,20 +6,16 @@ use Rattle.order.specs.Map.{Item}
 use Rattle.change.specs.Change.{Change}
 use Rattle.change.specs.Difference.{diff}
 use Rattle.change.proofs.Whole.{as_new, as_gone, diff_new, diff_gone}
-use Rattle.number.specs.Number.{two_at}
 use Rattle.body.specs.declared.tag.Form.{Form}
 use Rattle.body.specs.declared.tag.Form.TheVariants as form
-use Rattle.body.specs.declared.tag.Action.{Action}
-use Rattle.body.specs.declared.tag.Action.TheVariants as action
 use Rattle.field.specs.Cells.{Cell, cells}
 use Rattle.payload.specs.Content.{Bytes, entry_of}
 use Rattle.payload.specs.Payload.{entries, items}
 use Rattle.item.specs.declared.place.Part.{Part}
-use Rattle.item.specs.declared.place.Act.{Act}
-use Rattle.item.specs.declared.place.Act.TheVariants.{Announce, Withdraw, Update}
+use Rattle.item.specs.declared.place.Act.TheVariants.{Announce, Withdraw}
 use Rattle.item.specs.declared.reading.Reading.{Reading}
 use Rattle.item.specs.declared.reading.Reading.TheVariants.{Withdrawn, Announced, Changes}
-use Rattle.item.specs.Reading.{item_as, read_as, held_place, split_place, act_place, SplitFits, Splits}
+use Rattle.item.specs.Reading.{item_as, read_as, held_place}
 
 -- ---- the small functions
 
@@ -35,28 +30,6 @@ module _ (reading : Reading) (v : Part) where
   held_changes e = rw e
 
 pub ruleset holding = (held_withdrawn, held_announced, held_changes)
-
-pub split_is : (s : Bytes) (v : Part) (n : ℕ) → n ≡ two_at s v.from →
-    Update (record { from = v.from + 2; to = v.from + 2 + n * 4 }) (record { from = v.from + 2 + n * 4; to = v.to }) ≡ split_place s v
-split_is s v n e = rw e
-
-module _ (reading : Reading) (a : Action) (s : Bytes) (v : Part) where
-  pub act_hold : (r : Act) → a ≡ action.Hold → r ≡ held_place reading v → r ≡ act_place reading a s v
-  act_hold r e q = rw e q
-
-  pub act_announce : a ≡ action.Announce → Announce v ≡ act_place reading a s v
-  act_announce e = rw e
-
-  pub act_withdraw : a ≡ action.Withdraw → Withdraw v ≡ act_place reading a s v
-  act_withdraw e = rw e
-
-  pub act_update : (r : Act) → a ≡ action.Update → r ≡ split_place s v → r ≡ act_place reading a s v
-  act_update r e q = rw e q
-
-pub act_splits : (a : Action) (s : Bytes) (v : Part) → Splits a s v → a ≡ action.Update → SplitFits s v
-act_splits a s v h e = rw e at h
-
-pub ruleset acting = (act_hold, act_announce, act_withdraw, act_update, act_splits)
 
 -- ---- what a run says, from its first field on
 

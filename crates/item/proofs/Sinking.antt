@@ -1,28 +1,20 @@
 -- Laws of writing into a lent slice.
-use Prim.Native.Nat.{ℕ, suc, ◌+◌, ◌*◌, ◌/◌, ◌%◌, ◌^◌, ◌<◌, ◌≤◌}
+use Prim.Native.Nat.{ℕ, suc, ◌+◌, ◌/◌, ◌%◌, ◌^◌, ◌<◌, ◌≤◌}
 use mathlib.Core.Path.{◌≡◌, refl, sym, ap, ◌∙◌}
 use mathlib.Core.List.{[], ◌∷◌, ◌++◌}
 use native.Mathlib.Omega.{arith}
 use native.Mathlib.Nat.{add-zero}
 use lib.ListN.{length, set, length-append, length-take, length-drop}
 use lib.Seq.{sets, set_out}
-use Rattle.body.specs.declared.tag.Form.{Form}
-use Rattle.body.specs.declared.tag.Form.TheVariants.{Snapshot, Delta}
 use Rattle.payload.specs.Content.{Bytes, count_of, values_for}
 use Rattle.item.specs.declared.place.Part.{Part}
 use Rattle.item.specs.declared.place.Act.{Act}
 use Rattle.item.specs.declared.place.Act.TheVariants.{Announce, Withdraw, Update}
-use Rattle.item.specs.declared.sink.Counts.{Counts}
 use Rattle.item.specs.Place.{part_in, part_size, change_in, values_size, Lies, PartFits, ActFits, PartSized, ActSized}
-use Rattle.item.specs.Write.{tag_place, plus_place}
 
 -- ---- stores
 
--- a byte past the end is not written
-pub unwritten : (o : Bytes) (i x : ℕ) → length o ≤ i → o ≡ set o i x
-unwritten o i x h = sym (set_out o i x h)
-
--- nor are many
+-- many bytes past the end are not written
 pub sets_out : (vs o : Bytes) (i : ℕ) → length o ≤ i → sets o i vs ≡ o
 sets_out [] o i h = refl
 sets_out (v ∷ vs) o i h = rw (set_out o i v h) (sets_out vs o (suc i) (omega arith))
@@ -62,36 +54,6 @@ pub act_sized : (a b : Bytes) (act : Act) → ActFits a b act → ActSized act
 act_sized a b (Announce n) f = record { parts = has_size b n f.parts }
 act_sized a b (Withdraw p) f = record { parts = has_size a p f.parts }
 act_sized a b (Update p n) f = record { parts = (has_size a p f.parts.0, has_size b n f.parts.1) }
-
-module _ (act : Act) (f : ActSized act) where
-  pub sized_announce : (n : Part) → act ≡ Announce n → PartSized n
-  sized_announce n e = rw e at f.parts
-
-  pub sized_withdraw : (p : Part) → act ≡ Withdraw p → PartSized p
-  sized_withdraw p e = rw e at f.parts
-
-  pub sized_former : (p n : Part) → act ≡ Update p n → PartSized p
-  sized_former p n e = (rw e at f.parts).0
-
-  pub sized_new : (p n : Part) → act ≡ Update p n → PartSized n
-  sized_new p n e = (rw e at f.parts).1
-
-  pub size_announce : (n : Part) (r : ℕ) → act ≡ Announce n → r ≡ part_size n → r ≡ values_size act
-  size_announce n r e q = rw (e, q)
-
-  pub size_withdraw : (p : Part) (r : ℕ) → act ≡ Withdraw p → r ≡ part_size p → r ≡ values_size act
-  size_withdraw p r e q = rw (e, q)
-
-  pub size_update : (p n : Part) (x y : ℕ) → act ≡ Update p n → x ≡ part_size p → y ≡ part_size n → 2 + x + y ≡ values_size act
-  size_update p n x y e q r = rw (e, q, r)
-
-  pub sum_small : (p n : Part) (x y : ℕ) → act ≡ Update p n → x ≡ part_size p → y ≡ part_size n → 2 + x + y < 2 ^ 64
-  sum_small p n x y e q r = let g = sized_former p n e in let h = sized_new p n e in omega arith
-
-  pub former_small : (p n : Part) (x : ℕ) → act ≡ Update p n → x ≡ part_size p → 2 + x < 2 ^ 64
-  former_small p n x e q = let g = sized_former p n e in omega arith
-
-pub ruleset sizing = (sized_announce, sized_withdraw, sized_former, sized_new, size_announce, size_withdraw, size_update, sum_small, former_small)
 
 -- ---- values
 
@@ -156,32 +118,3 @@ pub put_withdraw : (a b : Bytes) (act : Act) (o : Bytes) (i : ℕ) (p : Part) (q
 put_withdraw a b act o i p q e d = rw e d
 
 pub ruleset putting = (copy_announce, copy_withdraw, copy_former, copy_new, size_former, put_announce, put_withdraw, count_small, behind_former, put_update)
-
--- ---- the tag, and the counts
-
-module _ (form : Form) (kind : ℕ) (act : Act) where
-  pub tag_snapshot : form ≡ Snapshot → kind ≡ tag_place form kind act
-  tag_snapshot e = rw e
-
-  pub tag_announce : (n : Part) → form ≡ Delta → act ≡ Announce n → kind * 16 + 1 ≡ tag_place form kind act
-  tag_announce n e d = rw (e, d)
-
-  pub tag_withdraw : (p : Part) → form ≡ Delta → act ≡ Withdraw p → kind * 16 + 2 ≡ tag_place form kind act
-  tag_withdraw p e d = rw (e, d)
-
-  pub tag_update : (p n : Part) → form ≡ Delta → act ≡ Update p n → kind * 16 + 3 ≡ tag_place form kind act
-  tag_update p n e d = rw (e, d)
-
-pub ruleset tagging = (tag_snapshot, tag_announce, tag_withdraw, tag_update)
-
-module _ (c : Counts) (act : Act) (size : ℕ) where
-  pub plus_announce : (n : Part) → act ≡ Announce n → record { len = c.len + size; announced = c.announced + 1; withdrawn = c.withdrawn } ≡ plus_place c act size
-  plus_announce n e = rw e
-
-  pub plus_withdraw : (p : Part) → act ≡ Withdraw p → record { len = c.len + size; announced = c.announced; withdrawn = c.withdrawn + 1 } ≡ plus_place c act size
-  plus_withdraw p e = rw e
-
-  pub plus_update : (p n : Part) → act ≡ Update p n → record { len = c.len + size; announced = c.announced + 1; withdrawn = c.withdrawn } ≡ plus_place c act size
-  plus_update p n e = rw e
-
-pub ruleset counting = (plus_announce, plus_withdraw, plus_update)

@@ -1,5 +1,5 @@
 -- What the places that the code keeps stand for. The former value of a change lies in the bytes a, the new one in b.
-use Rattle.std.specs.Prelude.{ℕ, ◌+◌, ◌-◌, ◌≤◌, ◌≡◌, length}
+use Rattle.std.specs.Prelude.{ℕ, ◌+◌, ◌-◌, ◌≤◌, ◌≡◌, length, None, Some}
 use Rattle.std.proofs.Math.Option.{Option, none, some}
 use Rattle.order.specs.Map.{Item}
 use Rattle.change.specs.Change.{Change, announce, withdraw, update}
@@ -10,8 +10,7 @@ use Rattle.payload.specs.Content.{Bytes}
 use Rattle.item.specs.declared.place.Part.{Part}
 use Rattle.item.specs.declared.place.Act.{Act}
 use Rattle.item.specs.declared.place.Act.TheVariants.{Announce, Withdraw, Update}
-use Rattle.item.specs.declared.place.Held.{Held}
-use Rattle.item.specs.declared.place.Held.TheVariants.{Nothing, Is}
+use Rattle.std.specs.Prelude as opt
 
 abbrev pub part_in : Bytes → Part → Bytes
 part_in s p = part s p.from p.to
@@ -27,9 +26,9 @@ change_in a b (Update p n) = update (part_in a p) (part_in b n)
 abbrev pub item_in : Bytes → Bytes → Key → Act → Item Bytes (Change Bytes)
 item_in a b key act = record { key = key_in a key; val = change_in a b act }
 
-abbrev pub held_in : Bytes → Bytes → Held → Option (Change Bytes)
-held_in a b Nothing = none
-held_in a b (Is act) = some (change_in a b act)
+abbrev pub held_in : Bytes → Bytes → opt.Option Act → Option (Change Bytes)
+held_in a b None = none
+held_in a b (Some act) = some (change_in a b act)
 
 abbrev pub key_size : Key → ℕ
 key_size k = k.to - k.from
@@ -72,9 +71,9 @@ PartsSized (Update p n) = PartSized p × PartSized n
 pub record ActSized (act : Act) : Type 0 where
   pub parts : PartsSized act
 
-abbrev pub HeldFits : Bytes → Bytes → Held → Type 0
-HeldFits a b Nothing = Unit {0}
-HeldFits a b (Is act) = ActFits a b act
+abbrev pub HeldFits : Bytes → Bytes → opt.Option Act → Type 0
+HeldFits a b None = Unit {0}
+HeldFits a b (Some act) = ActFits a b act
 
 -- a key of a good field: it lies in s
 pub record KeyIn (s : Bytes) (k : Key) : Type 0 where
@@ -83,6 +82,6 @@ pub record KeyIn (s : Bytes) (k : Key) : Type 0 where
   pub short : k.to - k.from ≤ 1_048
 
 -- r lies in a and b, and stands for o
-pub record Holds (a b : Bytes) (o : Option (Change Bytes)) (r : Held) : Type 0 where
+pub record Holds (a b : Bytes) (o : Option (Change Bytes)) (r : opt.Option Act) : Type 0 where
   pub fits : HeldFits a b r
   pub is : held_in a b r ≡ o

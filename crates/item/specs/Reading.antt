@@ -1,5 +1,5 @@
 -- A run of fields read as changes.
-use Rattle.std.specs.Prelude.{ℕ, ◌+◌, ◌*◌, ◌≤◌, ◌<◌, ◌≡◌, [], ◌∷◌, length, drop}
+use Rattle.std.specs.Prelude.{ℕ, ◌+◌, ◌*◌, ◌≤◌, ◌<◌, ◌≡◌, [], ◌∷◌, length, drop, None, Option, Some}
 use Rattle.order.specs.Comparison.{bytes}
 use Rattle.order.specs.Map.{Item}
 use Rattle.change.specs.Change.{Change, announce, withdraw}
@@ -19,8 +19,6 @@ use Rattle.item.specs.declared.place.Act.TheVariants.{Announce, Withdraw, Update
 use Rattle.item.specs.declared.place.Entry.{Entry}
 use Rattle.item.specs.declared.reading.Reading.{Reading}
 use Rattle.item.specs.declared.reading.Reading.TheVariants.{Withdrawn, Announced, Changes}
-use Rattle.item.specs.declared.reading.Read.{Read}
-use Rattle.item.specs.declared.reading.Read.TheVariants.{End, One}
 use Rattle.item.specs.Place.{item_in, ActFits, KeyIn}
 
 abbrev pub form_of : Reading → Form
@@ -89,15 +87,15 @@ pub record EntryFits (reading : Reading) (s : Bytes) (at : ℕ) (e : Entry) : Ty
   pub ahead : at < e.next
   pub ready : Ready reading s e.next
 
-abbrev pub ReadFits : Reading → Bytes → ℕ → Read → Type 0
-ReadFits reading s at End = cells (drop at s) ≡ []
-ReadFits reading s at (One e) = EntryFits reading s at e
+abbrev pub ReadFits : Reading → Bytes → ℕ → Option Entry → Type 0
+ReadFits reading s at None = cells (drop at s) ≡ []
+ReadFits reading s at (Some e) = EntryFits reading s at e
 
 -- what stands at `at` is the first of what the run says from there on
-abbrev pub read_is : Reading → Bytes → Read → Delta Bytes Bytes
-read_is reading s End = []
-read_is reading s (One e) = item_in s s e.key e.act ∷ read_as reading (drop e.next s)
+abbrev pub read_is : Reading → Bytes → Option Entry → Delta Bytes Bytes
+read_is reading s None = []
+read_is reading s (Some e) = item_in s s e.key e.act ∷ read_as reading (drop e.next s)
 
-pub record Reads (reading : Reading) (s : Bytes) (at : ℕ) (r : Read) : Type 0 where
+pub record Reads (reading : Reading) (s : Bytes) (at : ℕ) (r : Option Entry) : Type 0 where
   pub fits : ReadFits reading s at r
   pub is : read_as reading (drop at s) ≡ read_is reading s r

@@ -6,7 +6,7 @@ ghost use Rattle.item.specs.Place.{Lies, part_in};
 ghost use Rattle.item.specs.Copy.{Spans};
 
 use crate::place::Part;
-use number::{lower, word_at};
+use number::word_at;
 
 // A byte at i.
 pub fn store(out: &mut [u8], i: usize, x: u8)
@@ -52,6 +52,7 @@ fn copy_eight(s: &[u8], from: usize, out: &mut [u8], i: usize)
 }
 
 // Of the n bytes of s at `from`, as many as are eights go to i: how many bytes that is.
+// Kept: eight bytes a turn; a field has 26, for which a call of memcpy is dear.
 fn copy_eights(s: &[u8], from: usize, out: &mut [u8], i: usize, n: usize) -> usize
     requires { Spans s.now from out.old i n }
     ensures { (result ≤ n) × (out.new ≡ sets out.old i (take result (drop from s.now))) }
@@ -69,10 +70,8 @@ fn copy_bytes(s: &[u8], from: usize, out: &mut [u8], i: usize, n: usize)
     requires { Spans s.now from out.old i n }
     ensures { out.new ≡ sets out.old i (take n (drop from s.now)) }
 {
-    let mut k = 0;
-    while k < n {
+    for k in 0..n {
         out[i + k] = s[from + k];
-        k += 1;
     }
 }
 
@@ -85,7 +84,7 @@ pub fn copy(s: &[u8], p: Part, out: &mut [u8], i: usize)
         return;
     }
     let from = p.from;
-    let n = lower(p.to - from, out.len() - i);
+    let n = (p.to - from).min(out.len() - i);
     let k = copy_eights(s, from, out, i, n);
     copy_bytes(s, from + k, out, i + k, n - k);
 }

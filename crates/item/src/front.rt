@@ -2,13 +2,11 @@
 ghost use Rattle.std.specs.Prelude.{◌≡◌};
 ghost use Rattle.item.specs.Front.{front_in};
 
-use number::wide;
-
 // The front of a field's key, by its kind and the eight bytes behind its head.
 pub fn front_in(kind: u8, word: usize) -> usize
     ensures { result ≡ front_in kind word }
 {
-    let first = wide(kind) * 72057594037927936;
+    let first = usize::from(kind) * 72057594037927936;
     if kind == 3 {
         return first + word / 4294967296 * 16777216;
     }

@@ -16,13 +16,6 @@ pub enum Act {
     Update(Part, Part),
 }
 
-// What is left of two changes at one key.
-#[derive(Clone, Copy)]
-pub enum Held {
-    Nothing,
-    Is(Act),
-}
-
 // An item of a run, and where the next one starts.
 #[derive(Clone, Copy)]
 pub struct Entry {

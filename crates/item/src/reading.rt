@@ -9,25 +9,35 @@ use field::head::{Field, field_at};
 use field::key::key_at;
 use number::two_at;
 
-#[derive(Clone, Copy)]
+#[derive(Clone, Copy, PartialEq, Eq)]
 pub enum Reading {
     Withdrawn,
     Announced,
     Changes,
 }
 
+// Fields, and how they are read.
 #[derive(Clone, Copy)]
-pub enum Read {
-    End,
-    One(Entry),
+pub struct Run<'a> {
+    pub reading: Reading,
+    pub bytes: &'a [u8],
+}
+
+impl<'a> Run<'a> {
+    // The item at a place of a good run, if one stands there.
+    pub fn read(self, at: usize) -> Option<Entry>
+        requires { Ready self.reading self.bytes.now at }
+        ensures { Reads self.entry.reading self.entry.bytes.now at result }
+    {
+        read_at(self.reading, self.bytes, at)
+    }
 }
 
 pub fn form_of(reading: Reading) -> Form
     ensures { result ≡ form_of reading }
 {
     match reading {
-        Reading::Withdrawn => Form::Snapshot,
-        Reading::Announced => Form::Snapshot,
+        Reading::Withdrawn | Reading::Announced => Form::Snapshot,
         Reading::Changes => Form::Delta,
     }
 }
@@ -37,9 +47,7 @@ fn action_of(tag: Tag) -> Action
 {
     match tag {
         Tag::Unknown => Action::Hold,
-        Tag::Origin(action) => action,
-        Tag::RouterKey(action) => action,
-        Tag::Aspa(action) => action,
+        Tag::Origin(action) | Tag::RouterKey(action) | Tag::Aspa(action) => action,
     }
 }
 
@@ -69,8 +77,7 @@ fn held_as(reading: Reading, values: Part) -> Act
 {
     match reading {
         Reading::Withdrawn => Act::Withdraw(values),
-        Reading::Announced => Act::Announce(values),
-        Reading::Changes => Act::Announce(values),
+        Reading::Announced | Reading::Changes => Act::Announce(values),
     }
 }
 
@@ -87,21 +94,21 @@ fn act_at(reading: Reading, action: Action, s: &[u8], values: Part) -> Act
     }
 }
 
-// The item of the field at a place of a good run.
-pub fn read_at(reading: Reading, s: &[u8], at: usize) -> Read
+// The item of the field at a place of a good run, if one stands there.
+pub fn read_at(reading: Reading, s: &[u8], at: usize) -> Option<Entry>
     requires { Ready reading s.now at }
     ensures { Reads reading s.now at result }
 {
     match field_at(s, at) {
-        Field::End => Read::End,
+        Field::End => None,
         // Never: the run is good.
-        Field::Cut => Read::End,
+        Field::Cut => None,
         Field::Whole { tag, from, to } => {
             let form = form_of(reading);
             let key = key_at(kind_of(form, tag), from, to);
             let values = Part { from: key.to, to };
             let act = act_at(reading, action_of(tag_of(form, tag)), s, values);
-            Read::One(Entry { key, act, next: to })
+            Some(Entry { key, act, next: to })
         }
     }
 }

@@ -94,7 +94,7 @@ fn plus(counts: Counts, act: Act, size: usize) -> Counts
     ensures { result ≡ plus_place counts act size }
 {
     match act {
-        Act::Announce(_) => Counts {
+        Act::Announce(_) | Act::Update(_, _) => Counts {
             len: counts.len + size,
             announced: counts.announced + 1,
             withdrawn: counts.withdrawn,
@@ -103,11 +103,6 @@ fn plus(counts: Counts, act: Act, size: usize) -> Counts
             len: counts.len + size,
             announced: counts.announced,
             withdrawn: counts.withdrawn + 1,
-        },
-        Act::Update(_, _) => Counts {
-            len: counts.len + size,
-            announced: counts.announced + 1,
-            withdrawn: counts.withdrawn,
         },
     }
 }

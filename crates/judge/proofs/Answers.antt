@@ -20,8 +20,8 @@ use Rattle.message.specs.Read.{message_in}
 use Rattle.message.specs.Read as read
 use Rattle.message.specs.Hear.{hear_f, hear}
 use Rattle.message.specs.Take.{take}
-use Rattle.judge.specs.declared.judge.Judged.TheVariants.{Accepted, Refused}
 use Rattle.judge.specs.Answer.{judge_admitted, result_of, judge_of, judge_out}
+use Rattle.std.specs.Prelude.{Err, Ok}
 
 abbrev opening : Bytes
 opening = 1 ∷ 3 ∷ 0 ∷ 2 ∷ 0 ∷ 0 ∷ 0 ∷ 8 ∷ []
@@ -38,11 +38,11 @@ origin = 1 ∷ 0 ∷ 23 ∷ 4 ∷ 192 ∷ 0 ∷ 2 ∷ 0 ∷ (replicate 12 0 ++ (
 
 -- announced where it is not held: accepted with room for 26 bytes, and not with less
 taken : judge_of Rfc8210 [] (opening ++ (prefix 1 ++ ending)) 26
-    ≡ Accepted (record { 0 = 2 }) (record { 0 = 7 }) (record { refresh = 3600; retry = 600; expire = 7200 }) (record { len = 26; announced = 1; withdrawn = 0 })
+    ≡ Ok (record { session = record { 0 = 2 }; serial = record { 0 = 7 }; times = record { refresh = 3600; retry = 600; expire = 7200 }; counts = record { len = 26; announced = 1; withdrawn = 0 } })
 unfolding verdict verdict_f judge front good_body tag_of kind_of key_of good_origin good_prefix clean sensible cells cells_f field run.cell_bytes entries encode walk part_of message_in read.front hear_f hear take judge_admitted result_of judge_of
 taken = refl
 
-no_room : judge_of Rfc8210 [] (opening ++ (prefix 1 ++ ending)) 25 ≡ Refused NoRoom
+no_room : judge_of Rfc8210 [] (opening ++ (prefix 1 ++ ending)) 25 ≡ Err NoRoom
 unfolding verdict verdict_f judge front good_body tag_of kind_of key_of good_origin good_prefix clean sensible cells cells_f field run.cell_bytes entries encode walk part_of message_in read.front hear_f hear take judge_admitted result_of judge_of
 no_room = refl
 
@@ -51,18 +51,18 @@ unfolding verdict verdict_f judge front good_body tag_of kind_of key_of good_ori
 written = refl
 
 -- announced twice, withdrawn where it is not held, both before the answer breaks off; no answer; a bad snapshot of ours before all
-present : judge_of Rfc8210 [] (opening ++ (prefix 1 ++ (prefix 1 ++ (1 ∷ [])))) 100 ≡ Refused (Present 28)
+present : judge_of Rfc8210 [] (opening ++ (prefix 1 ++ (prefix 1 ++ (1 ∷ [])))) 100 ≡ Err (Present 28)
 unfolding verdict verdict_f judge front good_body tag_of kind_of key_of good_origin good_prefix clean sensible cells cells_f field run.cell_bytes entries encode walk part_of message_in read.front hear_f hear take judge_admitted result_of judge_of
 present = refl
 
-absent : judge_of Rfc8210 [] (opening ++ (prefix 0 ++ (1 ∷ []))) 100 ≡ Refused (Absent 8)
+absent : judge_of Rfc8210 [] (opening ++ (prefix 0 ++ (1 ∷ []))) 100 ≡ Err (Absent 8)
 unfolding verdict verdict_f judge front good_body tag_of kind_of key_of good_origin good_prefix clean sensible cells cells_f field run.cell_bytes entries encode walk part_of message_in read.front hear_f hear take judge_admitted result_of judge_of
 absent = refl
 
-broken : judge_of Rfc8210 [] (opening ++ (prefix 1 ++ (1 ∷ []))) 100 ≡ Refused (Faulty 28)
+broken : judge_of Rfc8210 [] (opening ++ (prefix 1 ++ (1 ∷ []))) 100 ≡ Err (Faulty 28)
 unfolding verdict verdict_f judge front good_body tag_of kind_of key_of good_origin good_prefix clean sensible cells cells_f field run.cell_bytes entries encode walk part_of message_in read.front hear_f hear take judge_admitted result_of judge_of
 broken = refl
 
-ours_first : judge_of Rfc8210 (9 ∷ []) [] 100 ≡ Refused (Bad 1 0)
+ours_first : judge_of Rfc8210 (9 ∷ []) [] 100 ≡ Err (Bad 1 0)
 unfolding verdict verdict_f judge front good_body tag_of kind_of key_of good_origin good_prefix clean sensible cells cells_f field run.cell_bytes entries encode walk part_of message_in read.front hear_f hear take judge_admitted result_of judge_of
 ours_first = refl

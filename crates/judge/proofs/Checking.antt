@@ -1,17 +1,17 @@
 -- Laws of the search for messages at fault.
-use Prim.Native.Nat.{ℕ, ◌+◌, ◌^◌, ◌<◌, ◌≤◌}
+use Prim.Native.Nat.{ℕ, ◌+◌, ◌<◌, ◌≤◌}
 use mathlib.Core.Path.{◌≡◌, refl, sym, ap, subst, ◌∙◌}
 use mathlib.Core.List.{List, [], ◌∷◌, ◌++◌}
 use mathlib.Core.Bool.{Bool, true, false, not, cond}
 use mathlib.Core.Option.{some}
 use native.Mathlib.Omega.{arith}
 use native.Mathlib.Numerals.{add-one}
-use borrow.Author.Tests.{eq-eqb, ne_eqb, eqb-true, eqb-false, lt-ltb, le-ltb, not-true, not-false}
+use borrow.Author.Tests.{eq-eqb, ne_eqb, eqb-true, eqb-false}
 use lib.Dec.{eqb, ltb}
-use lib.ListN.{length, get_or, take, drop, length-take, drop_of_length-le}
-use lib.Seq.{drop-cons, get_or-take}
-use Rattle.order.specs.declared.Ordering.{Ordering}
-use Rattle.order.specs.declared.Ordering.TheVariants.{Less, Equal, Greater}
+use lib.ListN.{length, get_or, drop, drop_of_length-le}
+use lib.Seq.{drop-cons}
+use Rattle.std.specs.declared.cmp.Ordering.{Ordering}
+use Rattle.std.specs.declared.cmp.Ordering.TheVariants.{Less, Equal, Greater}
 use Rattle.order.specs.Comparison.{bytes, flip}
 use Rattle.order.specs.Map.{Item, All, lookup, own}
 use Rattle.order.proofs.Comparison.{strings}
@@ -25,10 +25,10 @@ use Rattle.item.specs.Reading.{Ready}
 use Rattle.heard.specs.Place.{key_at, announces_at, Payload, before, precedes}
 use Rattle.sorting.proofs.Precede.{true≢false}
 use Rattle.batch.specs.Next.{is_above}
-use Rattle.judge.specs.declared.find.Found.{Found}
 use Rattle.judge.specs.declared.check.Check.{Check}
 use Rattle.judge.specs.Walk.{is_some, has, follows, is_fault, lesser, least_fault}
-use Rattle.judge.specs.State.{Last, no, one, Next, Chain, on, last_of, Beyond, first, above, Finds, Checked, ChecksOne, Checks, Batched}
+use Rattle.item.specs.declared.place.Part.{Part}
+use Rattle.judge.specs.State.{Last, no, one, Next, Chain, on, last_of, Beyond, first, above, Finds, Checked, ChecksOne, Checks}
 use Rattle.judge.proofs.Finding.{sorted_from}
 
 abbrev S : Type 0
@@ -49,20 +49,6 @@ last_payload s last no e = absurd (e refl)
 last_payload s last (one p h) e = p
 
 pub ruleset nexts = (next_first, next_same, last_payload)
-
--- ---- lower_fault
-
-module _ (fault : Bool) (x least : ℕ) where
-  pub lower_none : not fault ≡ true → least ≡ lesser fault x least
-  lower_none e = rw (not-true fault e)
-
-  pub lower_new : not fault ≡ false → x < least → x ≡ lesser fault x least
-  lower_new e h = rw (not-false fault e, lt-ltb x least h)
-
-  pub lower_old : not fault ≡ false → least ≤ x → least ≡ lesser fault x least
-  lower_old e h = rw (not-false fault e, le-ltb x least h)
-
-pub ruleset lowers = (lower_none, lower_new, lower_old)
 
 -- ---- the same record, or one above
 
@@ -109,17 +95,17 @@ lookup_over k l (x ∷ A) B h e =
 
 -- ---- find's answer
 
-module _ (a : Bytes) (from : ℕ) (k : Bytes) (r : Found) (f : Finds a from k r) where
+module _ (a : Bytes) (from : ℕ) (k : Bytes) (r : Part) (f : Finds a from k r) where
   abbrev B : S
-  B = items (drop r.next a)
+  B = items (drop r.to a)
 
-  found_has : is_some (lookup bytes k (items (drop from a))) ≡ r.here
+  found_has : is_some (lookup bytes k (items (drop from a))) ≡ ltb r.from r.to
   found_has =
-      rw (f.split, lookup_past k k (λ y e. e) f.passed (f.here ++ B) f.low) (go f.here r.here f.is_here f.counted)
+      rw (f.split, lookup_past k k (λ y e. e) f.passed (f.here ++ B) f.low) (go f.here (ltb r.from r.to) f.is_here f.counted)
     where
       go : (h : S) (t : Bool) → All (λ (x : Item Bytes Bytes). x.key ≡ k) h → length h ≡ cond t 1 0 → is_some (lookup bytes k (h ++ B)) ≡ t
       go [] true p q = absurd (omega (arith, q))
-      go [] false p q = rw (absent strings k B f.rest (sorted_from a r.next f.ready))
+      go [] false p q = rw (absent strings k B f.rest (sorted_from a r.to f.ready))
       go (x ∷ h) true p q = let z : bytes k x.key ≡ Equal = rw p.0 (strings.self k) in ap (λ (o : Ordering). is_some (own o (some x.val) (lookup bytes k (h ++ B)))) z
       go (x ∷ h) false p q = absurd (omega (arith, q))
 
@@ -158,19 +144,19 @@ module _ (a s : Bytes) (c : Check) (x : ℕ) (h : Checked a s c) where
           least = let z : f ≡ is_fault (items a) s c.last x = rw (← g, ← d, ← e, q) i in j ∙ ap (λ (b : Bool). lesser b x c.least) z;
         }
 
-      module _ (q : t ≡ false) (r : Found) (m : Finds a c.field (key_at s x) r) where
+      module _ (q : t ≡ false) (r : Part) (m : Finds a c.field (key_at s x) r) where
         beyond : Beyond s c.last (key_at s x)
         beyond = beyond_next s c.last x n.above (sym e ∙ q)
 
-        held_found : (k : Bytes) → Beyond s x k → lookup bytes k (items (drop r.next a)) ≡ lookup bytes k (items a)
+        held_found : (k : Bytes) → Beyond s x k → lookup bytes k (items (drop r.to a)) ≡ lookup bytes k (items a)
         held_found k (first z) = absurd (omega (arith, z, n.behind))
         held_found k (above z) = found_beyond a c.field (key_at s x) r m k z ∙ h.held k (beyond_trans s c.last x k beyond z)
 
-        has_is : has (items a) (key_at s x) ≡ r.here
+        has_is : has (items a) (key_at s x) ≡ ltb r.from r.to
         has_is = ap is_some (sym (h.held (key_at s x) beyond)) ∙ found_has a c.field (key_at s x) r m
 
-        pub one_found : (f : Bool) → f ≡ cond p r.here (not r.here) → (l : ℕ) → l ≡ lesser f x c.least
-            → ChecksOne a s c x (record { last = x; field = r.next; least = l })
+        pub one_found : (f : Bool) → f ≡ cond p (ltb r.from r.to) (not (ltb r.from r.to)) → (l : ℕ) → l ≡ lesser f x c.least
+            → ChecksOne a s c x (record { last = x; field = r.to; least = l })
         one_found f i l j = record {
           checked = record { ready = m.ready; last = one n.payload n.behind; held = held_found };
           last = refl;
@@ -190,58 +176,42 @@ chain_next s last x xs (on n c) = n
 pub chain_rest : (s : Bytes) (last x : ℕ) (xs : List ℕ) → Chain s last (x ∷ xs) → Chain s x xs
 chain_rest s last x xs (on n c) = c
 
--- the next of the first n of a list
-pub next_of_lem : (buf : List ℕ) (n i : ℕ) → i < n → n ≤ length buf → drop i (take n buf) ≡ get_or buf i 0 ∷ drop (i + 1) (take n buf)
-next_of_lem buf n i h l = rw (add-one, ← get_or-take n buf i 0 h) (drop-cons (take n buf) i 0 (omega (arith, length-take n buf)))
-
-pub record Checking (a s : Bytes) (buf : List ℕ) (n : ℕ) (from : Check) (c : Check) (i : ℕ) : Type 0 where
+pub record Checking (a s : Bytes) (xs : List ℕ) (from : Check) (c : Check) (i : ℕ) : Type 0 where
   pub checked : Checked a s c
-  pub chain : Chain s c.last (drop i (take n buf))
-  pub last : last_of c.last (drop i (take n buf)) ≡ last_of from.last (take n buf)
-  pub same : (zs : List ℕ) → least_fault (items a) s from.last from.least (take n buf ++ zs) ≡ least_fault (items a) s c.last c.least (drop i (take n buf) ++ zs)
-  pub room : n ≤ 6_000
-  pub len : length buf ≡ 6_000
-  pub within : i ≤ n
+  pub chain : Chain s c.last (drop i xs)
+  pub last : last_of c.last (drop i xs) ≡ last_of from.last xs
+  pub same : (zs : List ℕ) → least_fault (items a) s from.last from.least (xs ++ zs) ≡ least_fault (items a) s c.last c.least (drop i xs ++ zs)
 
-pub checking_start : (a s : Bytes) (buf : List ℕ) (n : ℕ) (from : Check) → Checked a s from → Batched s from.last buf n → Checking a s buf n from from 0
-checking_start a s buf n from h b = record { checked = h; chain = b.chain; last = refl; same = λ zs. refl; room = b.room; len = b.len; within = omega arith }
+pub checking_start : (a s : Bytes) (xs : List ℕ) (from : Check) → Checked a s from → Chain s from.last xs → Checking a s xs from from 0
+checking_start a s xs from h b = record { checked = h; chain = b; last = refl; same = λ zs. refl }
 
-module _ (a s : Bytes) (buf : List ℕ) (n : ℕ) (from c : Check) (i : ℕ) (h : Checking a s buf n from c i) where
+module _ (a s : Bytes) (xs : List ℕ) (from c : Check) (i : ℕ) (h : Checking a s xs from c i) where
   pub checking_checked : Checked a s c
   checking_checked = h.checked
 
-  module _ (l : i < n) where
-    split : drop i (take n buf) ≡ get_or buf i 0 ∷ drop (i + 1) (take n buf)
-    split = next_of_lem buf n i l (omega (arith, h.room, h.len))
+  module _ (l : i < length xs) where
+    split : drop i xs ≡ get_or xs i 0 ∷ drop (i + 1) xs
+    split = rw add-one (drop-cons xs i 0 l)
 
-    pub checking_next : Next s c.last (get_or buf i 0)
-    checking_next = chain_next s c.last (get_or buf i 0) (drop (i + 1) (take n buf)) (subst (Chain s c.last) split h.chain)
+    pub checking_next : Next s c.last (get_or xs i 0)
+    checking_next = chain_next s c.last (get_or xs i 0) (drop (i + 1) xs) (subst (Chain s c.last) split h.chain)
 
-    pub checking_in : i < length buf
-    checking_in = omega (arith, h.room, h.len)
-
-    pub checking_add : i + 1 < 2 ^ 64
-    checking_add = omega (arith, h.room)
-
-    pub checking_again : (r : Check) → ChecksOne a s c (get_or buf i 0) r → Checking a s buf n from r (i + 1)
+    pub checking_again : (r : Check) → ChecksOne a s c (get_or xs i 0) r → Checking a s xs from r (i + 1)
     unfolding least_fault
     checking_again r q = record {
       checked = q.checked;
-      chain = rw q.last (chain_rest s c.last (get_or buf i 0) (drop (i + 1) (take n buf)) (subst (Chain s c.last) split h.chain));
+      chain = rw q.last (chain_rest s c.last (get_or xs i 0) (drop (i + 1) xs) (subst (Chain s c.last) split h.chain));
       last = rw q.last (ap (last_of c.last) (sym split) ∙ h.last);
       same = λ zs. h.same zs ∙ ap (λ (w : List ℕ). least_fault (items a) s c.last c.least (w ++ zs)) split ∙ rw (q.last, q.least);
-      room = h.room;
-      len = h.len;
-      within = omega (arith, l);
     }
 
-  pub checking_end : n ≤ i → Checks a s from (take n buf) c
+  pub checking_end : length xs ≤ i → Checks a s from xs c
   checking_end l =
-      let z : drop i (take n buf) ≡ [] = drop_of_length-le (take n buf) {i = i} (omega (arith, length-take n buf)) in
+      let z : drop i xs ≡ [] = drop_of_length-le xs {i = i} l in
       record {
         checked = h.checked;
         last = ap (last_of c.last) (sym z) ∙ h.last;
         same = λ zs. h.same zs ∙ ap (λ (w : List ℕ). least_fault (items a) s c.last c.least (w ++ zs)) z;
       }
 
-pub ruleset checking = (checking_start, checking_checked, checking_next, checking_in, checking_add, checking_again, checking_end)
+pub ruleset checking = (checking_start, checking_checked, checking_next, checking_again, checking_end)

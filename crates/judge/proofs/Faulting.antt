@@ -14,9 +14,10 @@ use Rattle.judge.specs.declared.check.Check.{Check}
 use Rattle.judge.specs.Walk.{least_fault}
 use Rattle.batch.specs.Keep.{Told, Bound}
 use Rattle.batch.specs.Keep as keep
-use Rattle.batch.specs.Map.{Marked, Hinted}
+use Rattle.batch.specs.declared.map.Map.{Map}
+use Rattle.batch.specs.Map.{Mapped}
 pub use Rattle.judge.specs.State.{offsets}
-use Rattle.judge.specs.State.{ordered, Given, Charted, Last, no, one, last_of, Checked, Checks, Batched}
+use Rattle.judge.specs.State.{ordered, Given, Charted, Last, no, one, last_of, Checked, Checks, Chain}
 use Rattle.judge.proofs.Leaving.{chain_left, left_on, left_all_lem, chain_take}
 
 -- what is left behind a message
@@ -37,12 +38,11 @@ module _ (a s : Bytes) (stop : ℕ) (g : Given a s stop) (last : ℕ) where
     pub next_is : take r.n buf ≡ take r.n (left_at s stop last)
     next_is = n.is (offsets s stop) g.messages
 
-    pub next_batched : length buf ≡ 6000 → Batched s last buf r.n
-    next_batched e = record {
-      chain = rw next_is (chain_take s last r.n (left_at s stop last) (chain_left s g.messages last));
-      room = n.room;
-      len = e;
-    }
+    pub next_chain : Chain s last (take r.n buf)
+    next_chain = rw next_is (chain_take s last r.n (left_at s stop last) (chain_left s g.messages last))
+
+    pub next_room : length buf ≡ 6000 → r.n ≤ length buf
+    next_room e = omega (arith, n.room)
 
     -- it and what is left behind it are what was left
     pub next_all : r.over ≡ true → left_at s stop last ≡ take r.n buf ++ []
@@ -72,27 +72,24 @@ module _ (a s : Bytes) (stop : ℕ) (g : Given a s stop) (last : ℕ) where
 
 -- ---- least_fault
 
-pub record Faulting (a s : Bytes) (stop : ℕ) (marks hints buf : List ℕ) (c : Check) : Type 0 where
-  pub charted : Charted a s stop marks hints buf
+pub record Faulting (a s : Bytes) (stop : ℕ) (m : Map) (buf : List ℕ) (c : Check) : Type 0 where
+  pub charted : Charted a s stop m buf
   pub checked : Checked a s c
   pub same : least_fault (items a) s 0 stop (ordered s stop) ≡ least_fault (items a) s c.last c.least (left_at s stop c.last)
 
-pub faulting_start : (a s : Bytes) (stop : ℕ) (marks hints buf : List ℕ) → Charted a s stop marks hints buf → Faulting a s stop marks hints buf (record { last = 0; field = 0; least = stop })
-faulting_start a s stop marks hints buf g = record {
+pub faulting_start : (a s : Bytes) (stop : ℕ) (m : Map) (buf : List ℕ) → Charted a s stop m buf → Faulting a s stop m buf (record { last = 0; field = 0; least = stop })
+faulting_start a s stop m buf g = record {
   charted = g;
   checked = record { ready = g.given.ready; last = no; held = λ k b. refl };
   same = ap (least_fault (items a) s 0 stop) (sym (left_all_lem s (offsets s stop)));
 }
 
-module _ (a s : Bytes) (stop : ℕ) (marks hints b₀ : List ℕ) (c : Check) (h : Faulting a s stop marks hints b₀ c) where
+module _ (a s : Bytes) (stop : ℕ) (m : Map) (b₀ : List ℕ) (c : Check) (h : Faulting a s stop m b₀ c) where
   abbrev given : Given a s stop
   given = h.charted.given
 
-  pub faulting_marked : Marked s stop marks
-  faulting_marked = h.charted.marked
-
-  pub faulting_hinted : Hinted s stop hints
-  faulting_hinted = h.charted.hinted
+  pub faulting_mapped : Mapped s stop m
+  faulting_mapped = h.charted.mapped
 
   pub faulting_told : Told s stop c.last
   faulting_told = given_told a s stop given c.last h.checked.last
@@ -104,17 +101,20 @@ module _ (a s : Bytes) (stop : ℕ) (marks hints b₀ : List ℕ) (c : Check) (h
   faulting_len = h.charted.len
 
   module _ (buf : List ℕ) (r : Batch) (n : NextIs s stop c.last buf r) where
-    pub faulting_batched : length buf ≡ 6000 → Batched s c.last buf r.n
-    faulting_batched e = next_batched a s stop given c.last buf r n e
+    pub faulting_chain : Chain s c.last (take r.n buf)
+    faulting_chain = next_chain a s stop given c.last buf r n
+
+    pub faulting_room : length buf ≡ 6000 → r.n ≤ length buf
+    faulting_room = next_room a s stop given c.last buf r n
 
     module _ (d : Check) (k : Checks a s c (take r.n buf) d) where
       pub faulting_end : r.over ≡ true → d.least ≡ least_fault (items a) s 0 stop (ordered s stop)
       unfolding least_fault
       faulting_end o = sym (h.same ∙ ap (least_fault (items a) s c.last c.least) (next_all a s stop given c.last buf r n o) ∙ k.same [])
 
-      pub faulting_again : length buf ≡ 6000 → r.over ≡ false → Faulting a s stop marks hints buf d
+      pub faulting_again : length buf ≡ 6000 → r.over ≡ false → Faulting a s stop m buf d
       faulting_again e o = record {
-        charted = record { given = given; marked = faulting_marked; hinted = faulting_hinted; len = e };
+        charted = record { given = given; mapped = faulting_mapped; len = e };
         checked = k.checked;
         same = h.same ∙ ap (least_fault (items a) s c.last c.least) (next_on a s stop given c.last buf r n o)
             ∙ k.same (left_at s stop (last_of c.last (take r.n buf))) ∙ ap (λ (l : ℕ). least_fault (items a) s d.last d.least (left_at s stop l)) (sym k.last);
@@ -123,4 +123,4 @@ module _ (a s : Bytes) (stop : ℕ) (marks hints b₀ : List ℕ) (c : Check) (h
       pub faulting_less : r.over ≡ false → length (left_at s stop d.last) < length (left_at s stop c.last)
       faulting_less o = rw k.last (next_less a s stop given c.last buf r n o)
 
-pub ruleset faulting = (faulting_start, faulting_told, faulting_marked, faulting_hinted, faulting_checked, faulting_len, faulting_batched, faulting_end, faulting_again, faulting_less)
+pub ruleset faulting = (faulting_start, faulting_told, faulting_mapped, faulting_checked, faulting_len, faulting_chain, faulting_room, faulting_end, faulting_again, faulting_less)

@@ -7,12 +7,12 @@ use native.Mathlib.Omega.{arith}
 use native.Mathlib.Nat.{zero-add}
 use mir.Syntax.{w8}
 use mir.Val.{Fits}
-use borrow.Author.Tests.{ltb-true}
+use borrow.Author.Tests.{ltb-true, lt-ltb, le-ltb}
 use lib.Dec.{eqb, ltb}
 use lib.ListN.{length, get_or, take, drop, replicate, length-append, length-drop, length-take, length-replicate}
 use lib.Seq.{sets, take_at, drop-drop, take-add, sets-eq, length-sets}
-use Rattle.order.specs.declared.Ordering.{Ordering}
-use Rattle.order.specs.declared.Ordering.TheVariants.{Less, Equal, Greater}
+use Rattle.std.specs.declared.cmp.Ordering.{Ordering}
+use Rattle.std.specs.declared.cmp.Ordering.TheVariants.{Less, Equal, Greater}
 use Rattle.order.specs.Comparison.{bytes, flip}
 use Rattle.order.specs.Map.{Item, All, Below, Sorted}
 use Rattle.order.proofs.Never.{never}
@@ -33,8 +33,6 @@ use Rattle.payload.specs.Payload.{entries, encode, items}
 use Rattle.payload.proofs.Faithful.{run_back, entries_end, read}
 use Rattle.item.specs.declared.place.Entry.{Entry}
 use Rattle.item.specs.declared.reading.Reading.TheVariants.{Announced}
-use Rattle.item.specs.declared.reading.Read.{Read}
-use Rattle.item.specs.declared.reading.Read.TheVariants.{End, One}
 use Rattle.item.specs.Front.{front_key, front_in}
 use Rattle.item.specs.Reading.{Ready, FieldIs, Reads}
 use Rattle.item.proofs.Fronts.{front_less, drop_bytes}
@@ -45,8 +43,9 @@ use Rattle.heard.specs.Place.{type_at, size_at, key_at, Payload, Sized, v4, v6, 
 use Rattle.heard.specs.Field.{record_field}
 use Rattle.heard.proofs.Comparing.{key_octets}
 use Rattle.heard.proofs.Places.{size_most}
-use Rattle.judge.specs.declared.find.Found.{Found}
+use Rattle.item.specs.declared.place.Part.{Part}
 use Rattle.judge.specs.State.{Finds, IsPast}
+use Rattle.std.specs.Prelude.{None, Option, Some}
 
 abbrev S : Type 0
 S = change.Snapshot Bytes Bytes
@@ -100,14 +99,14 @@ module _ (a : Bytes) (from : ℕ) (k : Bytes) (at : ℕ) (h : Seeking a from k a
 
   module _ (o : (i : ℕ) → Fits w8 (get_or a i 0)) where
     -- the key is not there
-    absent : Below bytes k (items (drop at a)) → Finds a from k (record { at = at; next = at; here = false })
+    absent : Below bytes k (items (drop at a)) → Finds a from k (record { from = at; to = at })
     absent b = record {
       passed = h.passed;
       low = h.low;
       bytes_are = passed_bytes a from at h.start h.ready h.on o h.passed h.split;
       here = [];
       is_here = tt;
-      counted = refl;
+      counted = rw (le-ltb at at (omega arith));
       split = h.split;
       rest = b;
       on = h.on;
@@ -115,13 +114,13 @@ module _ (a : Bytes) (from : ℕ) (k : Bytes) (at : ℕ) (h : Seeking a from k a
       ready = h.ready;
     }
 
-    module _ (r : Read) (e : Reads Announced a at r) where
-      pub found_end : r ≡ End → Finds a from k (record { at = at; next = at; here = false })
+    module _ (r : Option Entry) (e : Reads Announced a at r) where
+      pub found_end : r ≡ None → Finds a from k (record { from = at; to = at })
       unfolding entries
       found_end q = absent (rw (no_images (entry_of Snapshot) (cells (drop at a)) (rw q at e.fits)) tt)
 
-      module _ (x : Entry) (q : r ≡ One x) where
-        one : Reads Announced a at (One x)
+      module _ (x : Entry) (q : r ≡ Some x) where
+        one : Reads Announced a at (Some x)
         one = rw q at e
 
         abbrev F : FieldIs Announced a at x
@@ -141,10 +140,10 @@ module _ (a : Bytes) (from : ℕ) (k : Bytes) (at : ℕ) (h : Seeking a from k a
           is : bytes held.key k ≡ c
           is = rw (← key_is) (sym f)
 
-          pub found_not : c ≡ Greater → Finds a from k (record { at = at; next = at; here = false })
+          pub found_not : c ≡ Greater → Finds a from k (record { from = at; to = at })
           found_not g = absent (rw items_are (strings.turn held.key k ∙ ap flip (is ∙ g)))
 
-          pub found_here : c ≡ Equal → Finds a from k (record { at = at; next = x.next; here = true })
+          pub found_here : c ≡ Equal → Finds a from k (record { from = at; to = x.next })
           found_here g =
               let z : held.key ≡ k = strings.same held.key k (is ∙ g) in
               let s : Sorted bytes (held ∷ items (drop x.next a)) = subst (Sorted bytes) items_are (sorted_from a at h.ready) in
@@ -154,7 +153,7 @@ module _ (a : Bytes) (from : ℕ) (k : Bytes) (at : ℕ) (h : Seeking a from k a
                 bytes_are = passed_bytes a from at h.start h.ready h.on o h.passed h.split;
                 here = held ∷ [];
                 is_here = (z, tt);
-                counted = refl;
+                counted = rw (lt-ltb at x.next (omega (arith, one.fits.ahead)));
                 split = h.split ∙ ap (λ (l : S). h.passed ++ l) items_are;
                 rest = subst (λ (y : Bytes). Below bytes y (items (drop x.next a))) z s.0;
                 on = h.on;
@@ -172,7 +171,7 @@ module _ (a : Bytes) (from : ℕ) (k : Bytes) (at : ℕ) (h : Seeking a from k a
             ready = one.fits.ready;
           }
 
-pub seeking_less : (a : Bytes) (at : ℕ) (r : Read) → Reads Announced a at r → (x : Entry) → r ≡ One x → length a - x.next < length a - at
+pub seeking_less : (a : Bytes) (at : ℕ) (r : Option Entry) → Reads Announced a at r → (x : Entry) → r ≡ Some x → length a - x.next < length a - at
 seeking_less a at r e x q = let f = (rw q at e.fits) in omega (arith, f.ahead, f.ready.within)
 
 pub ruleset keys = (seeking_start, seeking_ready, found_end, found_not, found_here, seeking_again, seeking_less)
@@ -256,7 +255,7 @@ module _ (s : Bytes) (x : ℕ) where
       pub name_some : 0 < length n
       name_some = let z : length n ≡ length n₀ = ap length e ∙ length-sets n₀ 0 (record_field (key_at s x)) in omega (arith, z, room, field_some)
 
-      pub name_is : (a : Bytes) (from size : ℕ) → size ≡ length (record_field (key_at s x)) → (r : Found)
+      pub name_is : (a : Bytes) (from size : ℕ) → size ≡ length (record_field (key_at s x)) → (r : Part)
           → Finds a from (key_in n (record { kind = get_or n 0 0; from = 3; to = size })) r → Finds a from (key_at s x) r
       name_is a from size z r h =
           subst (λ (y : Bytes). Finds a from y r) (named (key_at s x) n₀ n room e (key_cons s x) size z) h
@@ -343,22 +342,22 @@ module _ (a : Bytes) (from : ℕ) (s : Bytes) (x : ℕ) (p : Payload s x) (os : 
   pub find_from : Ready Announced a at
   find_from = k.ready
 
-  pub find_past : (r : Bool) → IsPast a at b r → r ≡ true → Finds a from (key_at s x) (record { at = at; next = at; here = false })
+  pub find_past : (r : Bool) → IsPast a at b r → r ≡ true → Finds a from (key_at s x) (record { from = at; to = at })
   find_past r q e =
       absent a from (key_at s x) at (record { passed = k.passed; low = first_low k.passed k.low; split = k.split; on = k.on; start = g; ready = k.ready }) oa
       (q.past e (key_at s x) (sym f))
 
-  pub find_on : (r : Found) → Finds a at (key_at s x) r → Finds a from (key_at s x) r
+  pub find_on : (r : Part) → Finds a at (key_at s x) r → Finds a from (key_at s x) r
   find_on r d = record {
     passed = k.passed ++ d.passed;
     low = all_append (λ (y : Item Bytes Bytes). bytes y.key (key_at s x) ≡ Less) k.passed d.passed (first_low k.passed k.low) d.low;
     bytes_are = encode_append k.passed d.passed
         ∙ ap₂ (λ (u w : Bytes). u ++ w) (passed_bytes a from at g k.ready k.on oa k.passed k.split) d.bytes_are
-        ∙ part_split a from at r.at k.on d.on;
+        ∙ part_split a from at r.from k.on d.on;
     here = d.here;
     is_here = d.is_here;
     counted = d.counted;
-    split = k.split ∙ ap (λ (l : S). k.passed ++ l) d.split ∙ sym (append_assoc k.passed d.passed (d.here ++ items (drop r.next a)));
+    split = k.split ∙ ap (λ (l : S). k.passed ++ l) d.split ∙ sym (append_assoc k.passed d.passed (d.here ++ items (drop r.to a)));
     rest = d.rest;
     on = omega (arith, k.on, d.on);
     within = d.within;

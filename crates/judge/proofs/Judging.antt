@@ -1,5 +1,5 @@
 -- Laws of the entry.
-use Prim.Native.Nat.{ℕ, ◌+◌, ◌-◌, ◌*◌, ◌^◌, ◌<◌, ◌≤◌}
+use Prim.Native.Nat.{ℕ, ◌+◌, ◌-◌, ◌^◌, ◌<◌, ◌≤◌}
 use mathlib.Core.Path.{◌≡◌, refl, sym, ap, ◌∙◌}
 use mathlib.Core.List.{List, [], ◌∷◌, ◌++◌, map}
 use mathlib.Core.Bool.{Bool, true, false, cond}
@@ -13,12 +13,7 @@ use lib.Seq.{sets, sets-eq}
 use Rattle.order.specs.Comparison.{bytes}
 use Rattle.order.proofs.Never.{never}
 use Rattle.change.specs.Application.{apply}
-use Rattle.serial.specs.declared.Serial.{Serial}
-use Rattle.serial.specs.declared.Session.{Session}
-use Rattle.serial.specs.declared.timing.Timing.{Timing}
 use Rattle.body.specs.declared.tag.Form.TheVariants.{Snapshot}
-use Rattle.field.specs.declared.verdict.Verdict.{Verdict}
-use Rattle.field.specs.declared.verdict.Verdict.TheVariants as verdict
 use Rattle.field.specs.Verdict.{verdict}
 use Rattle.payload.specs.Content.{Bytes}
 use Rattle.payload.specs.Payload.{encode, items}
@@ -30,8 +25,6 @@ use Rattle.item.specs.declared.reading.Reading.TheVariants.{Announced}
 use Rattle.item.proofs.Putting.{counts_path}
 use Rattle.delta.specs.declared.refusal.Refusal.{Refusal}
 use Rattle.delta.specs.declared.refusal.Refusal.TheVariants as refusal
-use Rattle.delta.specs.declared.admit.Admitted.{Admitted}
-use Rattle.delta.specs.declared.admit.Admitted.TheVariants.{Yes, No}
 use Rattle.delta.specs.Admission.{and_then, verdict_admitted, admit_one_of}
 use Rattle.delta.specs.Answer.{out_after}
 use Rattle.delta.proofs.Answering.{ready_start}
@@ -43,11 +36,12 @@ use Rattle.heard.specs.Place.{key_at, announces_at, told_at, Payload, Messages, 
 use Rattle.batch.specs.Map.{Surveys, Mapped}
 use Rattle.batch.specs.Map as map
 use Rattle.batch.proofs.Keeping.{size_some}
-use Rattle.heard.specs.declared.hear.Stop.TheVariants as stop
+use Rattle.std.specs.declared.result.Result.TheVariants.{Ok, Err}
+use Rattle.batch.specs.declared.map.Chunk.{Chunk}
+use Rattle.batch.specs.declared.map.Map.{Map}
+use Rattle.heard.specs.declared.hear.End.{End}
+use Rattle.heard.specs.declared.hear.Fault.{Fault}
 use Rattle.heard.specs.declared.hear.Heard.{Heard}
-use Rattle.judge.specs.declared.judge.Judged.TheVariants.{Accepted, Refused}
-use Rattle.judge.specs.declared.judge.Length.{Length}
-use Rattle.judge.specs.declared.judge.Length.TheVariants.{Over, Within}
 use Rattle.judge.specs.Walk.{least_fault, settled}
 use Rattle.judge.specs.Answer.{taken_of, misfit_as, judge_admitted, result_of, judge_of, judge_out}
 use Rattle.heard.specs.Field.{record_field}
@@ -57,89 +51,55 @@ use Rattle.judge.proofs.Leaving.{offsets_are}
 use Rattle.judge.proofs.Finding.{bytes_from}
 use Rattle.judge.proofs.Lengths.{taken_length}
 use Rattle.judge.proofs.Deciding.{FirstMisfit, fault_found, no_fault, announced_told, withdrawn_told}
-
--- ---- misfit
-
-module _ (s : Bytes) (x : ℕ) (t : Bool) (e : t ≡ announces_at s x) where
-  pub misfit_present : t ≡ true → refusal.Present x ≡ misfit_as (told_at s x).change x
-  misfit_present d = rw (← e, d)
-
-  pub misfit_absent : t ≡ false → refusal.Absent x ≡ misfit_as (told_at s x).change x
-  misfit_absent d = rw (← e, d)
-
-pub ruleset misfits = (misfit_present, misfit_absent)
-
--- ---- sized
-
-length_within : (n m room : ℕ) → n ≡ m → n ≤ room → Within n ≡ length_of m room
-length_within n m room e h = rw (← e, le-leb n room h)
-
-length_over : (m room : ℕ) → room < m → Over ≡ length_of m room
-length_over m room h = rw (lt-leb m room h)
-
-module _ (len more less room : ℕ) (h : less ≤ len + more) where
-  pub fewer_over : more < less → room < len - (less - more) → Over ≡ length_of (len + more - less) room
-  fewer_over l k = length_over (len + more - less) room (omega arith)
-
-  pub fewer : more < less → len - (less - more) ≤ room → Within (len - (less - more)) ≡ length_of (len + more - less) room
-  fewer l k = length_within (len - (less - more)) (len + more - less) room (omega arith) k
-
-  module _ (l : less ≤ more) where
-    pub more_over : room < len → Over ≡ length_of (len + more - less) room
-    more_over k = length_over (len + more - less) room (omega arith)
-
-    pub more_past : len ≤ room → room - len < more - less → Over ≡ length_of (len + more - less) room
-    more_past k m = length_over (len + more - less) room (omega arith)
-
-    pub more_within : len ≤ room → more - less ≤ room - len → Within (len + (more - less)) ≡ length_of (len + more - less) room
-    more_within k m = length_within (len + (more - less)) (len + more - less) room (omega arith) (omega arith)
-
-pub ruleset sizes = (fewer_over, fewer, more_over, more_past, more_within)
+use Rattle.delta.specs.Admission.{Admitted}
+use Rattle.std.specs.Prelude.{Err, Ok, None, Option, Some}
+use Rattle.field.specs.declared.verdict.Flaw.TheVariants as flaw
+use Rattle.field.specs.Verdict.{Verdict}
 
 -- ---- put_all
 
-within_room : (m room n : ℕ) → length_of m room ≡ Within n → (m ≤ room) × (n ≡ m)
+within_room : (m room n : ℕ) → length_of m room ≡ Some n → (m ≤ room) × (n ≡ m)
 within_room m room n = go (leb m room) refl
   where
-    go : (b : Bool) → leb m room ≡ b → cond b (Within m) Over ≡ Within n → (m ≤ room) × (n ≡ m)
+    go : (b : Bool) → leb m room ≡ b → cond b (Some m) None ≡ Some n → (m ≤ room) × (n ≡ m)
     go true p e = (leb-true m room p, sym (cc))
     go false p e = never cc
 
-over_room : (m room : ℕ) → length_of m room ≡ Over → room < m
+over_room : (m room : ℕ) → length_of m room ≡ None → room < m
 over_room m room = go (leb m room) refl
   where
-    go : (b : Bool) → leb m room ≡ b → cond b (Within m) Over ≡ Over → room < m
+    go : (b : Bool) → leb m room ≡ b → cond b (Some m) None ≡ None → room < m
     go true p e = never cc
     go false p e = leb-false m room p
 
-module _ (a s : Bytes) (stop more less : ℕ) (marks hints buf : List ℕ) (b : Balanced a s stop more less marks hints buf) (o : Bytes) (r : Length) (e : r ≡ length_of (length a + more - less) (length o)) where
+module _ (a s : Bytes) (stop more less : ℕ) (m : Map) (buf : List ℕ) (b : Balanced a s stop more less m buf) (o : Bytes) (r : Option ℕ) (e : r ≡ length_of (length a + more - less) (length o)) where
   abbrev whole : Bytes
   whole = left_all a s stop
 
   is : r ≡ length_of (length whole) (length o)
   is = e ∙ ap (λ (n : ℕ). length_of n (length o)) (omega (arith, b.is))
 
-  pub all_over : r ≡ Over → Over ≡ length_of (length whole) (length o)
+  pub all_over : r ≡ None → None ≡ length_of (length whole) (length o)
   all_over q = sym q ∙ is
 
-  pub all_left : r ≡ Over → o ≡ out_after Yes whole o
+  pub all_left : r ≡ None → o ≡ out_after (Ok tt) whole o
   all_left q = rw (lt-leb (length whole) (length o) (over_room (length whole) (length o) (sym is ∙ q)))
 
-  module _ (n : ℕ) (q : r ≡ Within n) where
+  module _ (n : ℕ) (q : r ≡ Some n) where
     pub all_room : RoomFor a s stop o
     all_room = record { room = (within_room (length whole) (length o) n (sym is ∙ q)).0 }
 
-    pub all_within : Within n ≡ length_of (length whole) (length o)
+    pub all_within : Some n ≡ length_of (length whole) (length o)
     all_within = sym q ∙ is
 
-    pub all_out : (p : Bytes) → p ≡ sets o 0 whole → p ≡ out_after Yes whole o
+    pub all_out : (p : Bytes) → p ≡ sets o 0 whole → p ≡ out_after (Ok tt) whole o
     all_out p d =
         let h : length whole ≤ length o = all_room.room in
         let z : 0 + length whole ≡ length whole = omega arith in
         rw (le-leb (length whole) (length o) h) (d ∙ sets-eq whole o 0 (omega (arith, h)) ∙ ap (λ (k : ℕ). whole ++ drop k o) z)
 
-module _ (a s : Bytes) (stop more less : ℕ) (marks hints buf : List ℕ) (b : Balanced a s stop more less marks hints buf) where
-  pub all_charted : Charted a s stop marks hints buf
+module _ (a s : Bytes) (stop more less : ℕ) (m : Map) (buf : List ℕ) (b : Balanced a s stop more less m buf) where
+  pub all_charted : Charted a s stop m buf
   all_charted = b.charted
 
   pub all_enough : less ≤ length a + more
@@ -149,29 +109,29 @@ pub ruleset putting_all = (all_charted, all_enough, all_over, all_left, all_room
 
 -- ---- our snapshot
 
-admitted_fine : (s : Bytes) → admit_one_of Snapshot s ≡ Yes → verdict Snapshot s ≡ verdict.Fine
+admitted_fine : (s : Bytes) → admit_one_of Snapshot s ≡ Ok tt → verdict Snapshot s ≡ Ok tt
 admitted_fine s = go (leb (length s) (limit Snapshot)) (verdict Snapshot s)
   where
-    go : (b : Bool) (v : Verdict) → and_then (cond b Yes (No (refusal.TooLong 1))) (verdict_admitted 1 v) ≡ Yes → v ≡ verdict.Fine
+    go : (b : Bool) (v : Verdict) → and_then (cond b (Ok tt) (Err (refusal.TooLong 1))) (verdict_admitted 1 v) ≡ Ok tt → v ≡ Ok tt
     go false v e = never cc
-    go true verdict.Fine e = refl
-    go true (verdict.Bad at) e = never cc
-    go true (verdict.Senseless at) e = never cc
-    go true (verdict.NotAbove at) e = never cc
+    go true (Ok tt) e = refl
+    go true (Err (flaw.Bad at)) e = never cc
+    go true (Err (flaw.Senseless at)) e = never cc
+    go true (Err (flaw.NotAbove at)) e = never cc
 
 -- ---- judge
 
 module _ (v : Version) (a m o : Bytes) (x : Admitted) (e : x ≡ admit_one_of Snapshot a) where
-  pub judge_refused : (r : Refusal) → x ≡ No r → Refused r ≡ judge_of v a m (length o)
+  pub judge_refused : (r : Refusal) → x ≡ Err r → Err r ≡ judge_of v a m (length o)
   unfolding judge_of judge_admitted
   judge_refused r d = rw (← e, d)
 
-  pub judge_left : (r : Refusal) → x ≡ No r → o ≡ judge_out v a m o
+  pub judge_left : (r : Refusal) → x ≡ Err r → o ≡ judge_out v a m o
   unfolding judge_out judge_admitted
   judge_left r d = rw (← e, d)
 
-module _ (v : Version) (a m : Bytes) (y : admit_one_of Snapshot a ≡ Yes) (h : Heard) (k : HeardIs v m h) where
-  fine : verdict Snapshot a ≡ verdict.Fine
+module _ (v : Version) (a m : Bytes) (y : admit_one_of Snapshot a ≡ Ok tt) (h : Heard) (k : HeardIs v m h) where
+  fine : verdict Snapshot a ≡ Ok tt
   fine = admitted_fine a y
 
   is_map : IsMap Snapshot (items a)
@@ -192,8 +152,8 @@ module _ (v : Version) (a m : Bytes) (y : admit_one_of Snapshot a ≡ Yes) (h : 
   pub judge_given : Given a m h.over
   judge_given = record { ready = ready_start Announced a fine; messages = messages }
 
-  pub judge_charted : (marks hints buf : List ℕ) → Mapped m h.over marks hints buf → Charted a m h.over marks hints buf
-  judge_charted marks hints buf c = record { given = judge_given; marked = c.marked; hinted = c.hinted; len = c.len }
+  pub judge_charted : (c : Map) (buf : List ℕ) → Mapped m h.over c → length buf ≡ 6000 → Charted a m h.over c buf
+  judge_charted c buf d e = record { given = judge_given; mapped = d; len = e }
 
   module _ (l : ℕ) (f : l ≡ least_fault (items a) m 0 h.over (ordered m h.over)) where
     -- a message that does not fit
@@ -207,13 +167,13 @@ module _ (v : Version) (a m : Bytes) (y : admit_one_of Snapshot a ≡ Yes) (h : 
       misfits_at : taken_of v a m ≡ misfit (told_at m l)
       misfits_at = ap (fold.take (items a)) told_are ∙ first.taken
 
-      refused : judge_admitted v a m ≡ No (misfit_as (told_at m l).change l)
+      refused : judge_admitted v a m ≡ Err (misfit_as (told_at m l).change l)
       unfolding judge_admitted
       refused = rw (y, misfits_at)
 
-      pub judge_misfit : (o : Bytes) (r : Refusal) → r ≡ misfit_as (told_at m l).change l → Refused r ≡ judge_of v a m (length o)
+      pub judge_misfit : (o : Bytes) (r : Refusal) → r ≡ misfit_as (told_at m l).change l → Err r ≡ judge_of v a m (length o)
       unfolding judge_of
-      judge_misfit o r q = rw refused (ap Refused q)
+      judge_misfit o r q = rw refused (ap Err q)
 
       pub judge_misfit_left : (o : Bytes) → o ≡ judge_out v a m o
       unfolding judge_out
@@ -231,15 +191,15 @@ module _ (v : Version) (a m : Bytes) (y : admit_one_of Snapshot a ≡ Yes) (h : 
       result = rw taken
 
       -- then a faulty one
-      module _ (at : ℕ) (q : h.stop ≡ stop.Faulty at) where
-        stops : (message.hear v m).stop ≡ message.faulty at
+      module _ (fault : Fault) (q : h.stop ≡ Err fault) where
+        stops : (message.hear v m).stop ≡ message.faulty fault.at
         stops = sym k.stop ∙ ap stop_is q
 
-        faulty : judge_admitted v a m ≡ No (refusal.Faulty at)
+        faulty : judge_admitted v a m ≡ Err (refusal.Faulty fault.at)
         unfolding judge_admitted
         faulty = rw (y, taken, stops)
 
-        pub judge_faulty : (o : Bytes) → Refused (refusal.Faulty at) ≡ judge_of v a m (length o)
+        pub judge_faulty : (o : Bytes) → Err (refusal.Faulty fault.at) ≡ judge_of v a m (length o)
         unfolding judge_of
         judge_faulty o = rw faulty
 
@@ -247,15 +207,15 @@ module _ (v : Version) (a m : Bytes) (y : admit_one_of Snapshot a ≡ Yes) (h : 
         unfolding judge_out
         judge_faulty_left o = rw faulty
 
-      pub judge_balanced : ((i : ℕ) → Fits w8 (get_or a i 0)) → (marks hints b₀ : List ℕ) → Mapped m h.over marks hints b₀ → (buf : List ℕ) → length buf ≡ 6000 → Balanced a m h.over h.more h.less marks hints buf
+      pub judge_balanced : ((i : ℕ) → Fits w8 (get_or a i 0)) → (c : Map) → Mapped m h.over c → (buf : List ℕ) → length buf ≡ 6000 → Balanced a m h.over h.sums.more h.sums.less c buf
       unfolding left_all sum_fields
-      judge_balanced oa marks hints b₀ c buf len =
+      judge_balanced oa c d buf len =
           let z : encode Snapshot (items a) ≡ a = bytes_from a 0 judge_given.ready oa in
           let w = taken_length m (sum_fields m true) (sum_fields m false) refl (λ n ns. plus n ns (announces_at m n)) refl (λ n ns. minus n ns (announces_at m n))
           (items a) (apply bytes (items a) (settled m (ordered m h.over))) is_map messages (no_fault (items a) m xs 8 h.over l is_map (omega arith) messages f ge).taken in
-          let p : h.more ≡ sum_fields m true xs = k.more ∙ ap (sum_fields m true) (sym xs_are) in
-          let q : h.less ≡ sum_fields m false xs = k.less ∙ ap (sum_fields m false) (sym xs_are) in
-          record { charted = record { given = judge_given; marked = c.marked; hinted = c.hinted; len = len }; is = omega (arith, w, p, q, ap length z) }
+          let p : h.sums.more ≡ sum_fields m true xs = k.more ∙ ap (sum_fields m true) (sym xs_are) in
+          let q : h.sums.less ≡ sum_fields m false xs = k.less ∙ ap (sum_fields m false) (sym xs_are) in
+          record { charted = record { given = judge_given; mapped = d; len = len }; is = omega (arith, w, p, q, ap length z) }
         where
           plus : (n : ℕ) (ns : List ℕ) (b : Bool) → cond b (cond true (length (record_field (key_at m n))) 0) (cond true 0 (length (record_field (key_at m n)))) + sum_fields m true ns ≡ cond b (length (record_field (key_at m n))) 0 + sum_fields m true ns
           plus n ns b = refl
@@ -263,20 +223,20 @@ module _ (v : Version) (a m : Bytes) (y : admit_one_of Snapshot a ≡ Yes) (h : 
           minus : (n : ℕ) (ns : List ℕ) (b : Bool) → cond b (cond false (length (record_field (key_at m n))) 0) (cond false 0 (length (record_field (key_at m n)))) + sum_fields m false ns ≡ cond b 0 (length (record_field (key_at m n))) + sum_fields m false ns
           minus n ns b = refl
 
-      module _ (session : Session) (serial : Serial) (times : Timing) (q : h.stop ≡ stop.Ended session serial times) where
-        ends : (message.hear v m).stop ≡ message.ended session.0 serial.0 times
+      module _ (e : End) (q : h.stop ≡ Ok e) where
+        ends : (message.hear v m).stop ≡ message.ended e.session.0 e.serial.0 e.times
         ends = sym k.stop ∙ ap stop_is q
 
-        yes : judge_admitted v a m ≡ Yes
+        yes : judge_admitted v a m ≡ Ok tt
         unfolding judge_admitted
         yes = rw (y, taken, ends)
 
-        pub judge_out_lem : (o p : Bytes) → p ≡ out_after Yes (left_all a m h.over) o → p ≡ judge_out v a m o
+        pub judge_out_lem : (o p : Bytes) → p ≡ out_after (Ok tt) (left_all a m h.over) o → p ≡ judge_out v a m o
         unfolding judge_out
         judge_out_lem o p d = rw (yes, result) d
 
-        module _ (o : Bytes) (w : Length) (g : w ≡ length_of (length (left_all a m h.over)) (length o)) where
-          pub judge_room : w ≡ Over → Refused refusal.NoRoom ≡ judge_of v a m (length o)
+        module _ (o : Bytes) (w : Option ℕ) (g : w ≡ length_of (length (left_all a m h.over)) (length o)) where
+          pub judge_room : w ≡ None → Err refusal.NoRoom ≡ judge_of v a m (length o)
           unfolding judge_of
           judge_room d =
               let n : length o < length whole_is = over_room (length whole_is) (length o) (sym g ∙ d) in
@@ -285,36 +245,41 @@ module _ (v : Version) (a m : Bytes) (y : admit_one_of Snapshot a ≡ Yes) (h : 
           counted : (f : List ℕ → ℕ) (c : ℕ) → c ≡ f k.xs → c ≡ f xs
           counted f c d = d ∙ ap f (sym xs_are)
 
-          announced_is : h.announced ≡ sum_of announces (map as_item (message.hear v m).told)
+          announced_is : h.sums.announced ≡ sum_of announces (map as_item (message.hear v m).told)
           unfolding count_flags
           announced_is =
-              counted (count_flags m true) h.announced k.announced
+              counted (count_flags m true) h.sums.announced k.announced
               ∙ announced_told m (count_flags m true) refl (λ n ns. refl) xs ∙ ap (λ (t : List message.Told). sum_of announces (map as_item t)) (sym told_are)
 
-          withdrawn_is : h.withdrawn ≡ sum_of withdraws (map as_item (message.hear v m).told)
+          withdrawn_is : h.sums.withdrawn ≡ sum_of withdraws (map as_item (message.hear v m).told)
           unfolding count_flags
           withdrawn_is =
-              counted (count_flags m false) h.withdrawn k.withdrawn
+              counted (count_flags m false) h.sums.withdrawn k.withdrawn
               ∙ withdrawn_told m (count_flags m false) refl (λ n ns. refl) xs ∙ ap (λ (t : List message.Told). sum_of withdraws (map as_item t)) (sym told_are)
 
-          pub judge_accepted : (len : ℕ) → w ≡ Within len →
-              Accepted session serial times (record { len = len; announced = h.announced; withdrawn = h.withdrawn }) ≡ judge_of v a m (length o)
+          pub judge_accepted : (len : ℕ) → w ≡ Some len →
+              Ok (record { session = e.session; serial = e.serial; times = e.times; counts = record { len = len; announced = h.sums.announced; withdrawn = h.sums.withdrawn } }) ≡ judge_of v a m (length o)
           unfolding judge_of
           judge_accepted len d =
               let n = within_room (length whole_is) (length o) len (sym g ∙ d) in
-              rw (yes, result, le-leb (length whole_is) (length o) n.0, ends) (ap (Accepted session serial times) (counts_path n.1 announced_is withdrawn_is))
+              rw (yes, result, le-leb (length whole_is) (length o) n.0, ends) (ap (λ c. Ok (record { session = e.session; serial = e.serial; times = e.times; counts = c })) (counts_path n.1 announced_is withdrawn_is))
 
--- what `judge` hands on: an array of zeros marks nothing and hints at nothing
+-- what `judge` hands on: a map of no chunks and no hints
 module _ (v : Version) (a m : Bytes) (h : Heard) (k : HeardIs v m h) where
-  pub judge_surveys : Surveys m h.over (replicate 560 0) (replicate 962 0) (replicate 6000 0)
+  abbrev no_chunk : Chunk
+  no_chunk = record { from = 0; mid = 0; over = 0; least = 0; most = 0 }
+
+  pub judge_surveys : Surveys m h.over (record { chunks = replicate 112 no_chunk; hints = replicate 960 0; held = 0; step = 0 }) (replicate 6000 0)
   judge_surveys = record {
     stretch = record { xs = k.xs; messages = k.messages };
-    marked = record { long = length-replicate {A = ℕ} 560 0; each = λ c n z. absurd (z (get_or-replicate {A = ℕ} 560 (5 * c) 0 0 (omega arith))) };
-    hinted = record { long = length-replicate {A = ℕ} 962 0; each = λ n z. map.none (get_or-replicate {A = ℕ} 962 n 0 0 (omega arith)) };
+    mapped = record {
+      marked = record { long = length-replicate {A = Chunk} 112 no_chunk; each = λ c d n z. absurd (z (ap (λ (x : Chunk). x.from) (get_or-replicate {A = Chunk} 112 c no_chunk d n))) };
+      hinted = record { long = length-replicate {A = ℕ} 960 0; each = λ n z. map.none (get_or-replicate {A = ℕ} 960 n 0 0 z) };
+    };
     len = length-replicate {A = ℕ} 6000 0;
   }
 
-  pub judge_count : Fits w64 h.over → h.announced + h.withdrawn < 2 ^ 64
+  pub judge_count : Fits w64 h.over → h.sums.announced + h.sums.withdrawn < 2 ^ 64
   unfolding count_flags
   judge_count w = omega (arith, k.announced, k.withdrawn, flags m k.xs, counted m k.messages, w.fits)
     where
@@ -330,8 +295,8 @@ module _ (v : Version) (a m : Bytes) (h : Heard) (k : HeardIs v m h) where
       counted s done = omega arith
       counted s (more {at = at} p ms) = omega (arith, counted s ms, size_some s at p)
 
-  pub judge_heeds : (x : Admitted) → x ≡ admit_one_of Snapshot a → x ≡ Yes → (marks hints buf : List ℕ) → Mapped m h.over marks hints buf → Heeds v a m h marks hints buf
-  judge_heeds x e y marks hints buf c = record { fine = sym e ∙ y; heard = k; mapped = c }
+  pub judge_heeds : (x : Admitted) → x ≡ admit_one_of Snapshot a → x ≡ Ok tt → (c : Map) (buf : List ℕ) → Mapped m h.over c → length buf ≡ 6000 → Heeds v a m h c buf
+  judge_heeds x e y c buf d l = record { fine = sym e ∙ y; heard = k; mapped = d; len = l }
 
 pub ruleset judging = (judge_refused, judge_left, judge_surveys, judge_count, judge_heeds)
 

@@ -19,7 +19,6 @@ use Rattle.number.specs.Number.{two_at, four_at}
 use Rattle.number.specs.Bytes.{part, AllBytes}
 use Rattle.body.specs.declared.tag.Form.TheVariants.{Snapshot}
 use Rattle.body.proofs.Sizes.{origin_size, key_size_lem}
-use Rattle.field.specs.declared.verdict.Verdict.TheVariants.{Fine}
 use Rattle.field.specs.Verdict.{verdict}
 use Rattle.field.specs.Cells.{Cell}
 use Rattle.field.specs.Cells as run
@@ -41,6 +40,7 @@ use Rattle.message.specs.Read.{message_in, Front, unread, read, front_of, front}
 use Rattle.message.specs.Hear.{Told, hear_part, hear_front, hear_f, open_part, open_front, hear}
 use Rattle.message.specs.Take.{as_item}
 use Rattle.message.proofs.Telling.{Tells, not_payload, hear_tells}
+use Rattle.std.specs.Prelude.{Ok}
 
 -- ---- lists of bytes
 
@@ -86,7 +86,7 @@ run_bytes (more {s = s} tag b rest f g z l r) o =
     rw (entries_more Snapshot s tag b rest f)
     (subst (λ (c : Cell). AllBytes (run.field c.tag c.body)) (sym q) h, run_bytes r (rest_bytes s tag b rest o w))
 
-pub items_bytes : (s : Bytes) → AllBytes s → verdict Snapshot s ≡ Fine → All ItemBytes (items s)
+pub items_bytes : (s : Bytes) → AllBytes s → verdict Snapshot s ≡ Ok tt → All ItemBytes (items s)
 items_bytes s o e = run_bytes (fine_run Snapshot s e) o
 
 -- that of a valid key of bytes without a value is

@@ -19,15 +19,16 @@ use Rattle.batch.specs.Next.{NextIs}
 use Rattle.judge.specs.declared.write.Write.{Write}
 use Rattle.judge.specs.Walk.{settled}
 use Rattle.batch.specs.Keep.{Told}
-use Rattle.batch.specs.Map.{Marked, Hinted}
-use Rattle.judge.specs.State.{offsets, Given, Charted, no, Batched, left_over, Written, Fitting, Ending, Writes, left_all, RoomFor}
+use Rattle.batch.specs.declared.map.Map.{Map}
+use Rattle.batch.specs.Map.{Mapped}
+use Rattle.judge.specs.State.{offsets, Given, Charted, no, Chain, left_over, Written, Fitting, Ending, Writes, left_all, RoomFor}
 use Rattle.judge.proofs.Leaving.{left_all_lem}
-use Rattle.judge.proofs.Faulting.{given_told, next_batched, whole, next_all, next_on, next_less}
+use Rattle.judge.proofs.Faulting.{given_told, next_chain, next_room, whole, next_all, next_on, next_less}
 pub use Rattle.judge.proofs.Faulting.{left_at}
 use Rattle.judge.proofs.Writing.{from_none}
 
-pub record Putting (a s : Bytes) (stop : ℕ) (marks hints : List ℕ) (o₀ : Bytes) (buf : List ℕ) (o : Bytes) (w : Write) : Type 0 where
-  pub charted : Charted a s stop marks hints buf
+pub record Putting (a s : Bytes) (stop : ℕ) (m : Map) (o₀ : Bytes) (buf : List ℕ) (o : Bytes) (w : Write) : Type 0 where
+  pub charted : Charted a s stop m buf
   pub written : Written a s w
   pub laid : Bytes
   pub same : left_all a s stop ≡ laid ++ left_over a s w (left_at s stop w.last)
@@ -36,10 +37,10 @@ pub record Putting (a s : Bytes) (stop : ℕ) (marks hints : List ℕ) (o₀ : B
   pub end : w.end ≡ length laid
   pub room : RoomFor a s stop o₀
 
-pub putting_start : (a s : Bytes) (stop : ℕ) (marks hints : List ℕ) (o : Bytes) (buf : List ℕ) → Charted a s stop marks hints buf → RoomFor a s stop o →
-    Putting a s stop marks hints o buf o (record { last = 0; field = 0; end = 0 })
+pub putting_start : (a s : Bytes) (stop : ℕ) (m : Map) (o : Bytes) (buf : List ℕ) → Charted a s stop m buf → RoomFor a s stop o →
+    Putting a s stop m o buf o (record { last = 0; field = 0; end = 0 })
 unfolding left_all
-putting_start a s stop marks hints o buf g r = record {
+putting_start a s stop m o buf g r = record {
   charted = g;
   written = record { ready = g.given.ready; last = no; above = λ h. absurd (omega (arith, h)) };
   laid = [];
@@ -50,15 +51,12 @@ putting_start a s stop marks hints o buf g r = record {
   room = r;
 }
 
-module _ (a s : Bytes) (stop : ℕ) (marks hints : List ℕ) (o₀ : Bytes) (b₀ : List ℕ) (o : Bytes) (w : Write) (h : Putting a s stop marks hints o₀ b₀ o w) where
+module _ (a s : Bytes) (stop : ℕ) (m : Map) (o₀ : Bytes) (b₀ : List ℕ) (o : Bytes) (w : Write) (h : Putting a s stop m o₀ b₀ o w) where
   abbrev given : Given a s stop
   given = h.charted.given
 
-  pub putting_marked : Marked s stop marks
-  putting_marked = h.charted.marked
-
-  pub putting_hinted : Hinted s stop hints
-  putting_hinted = h.charted.hinted
+  pub putting_mapped : Mapped s stop m
+  putting_mapped = h.charted.mapped
 
   pub putting_told : Told s stop w.last
   putting_told = given_told a s stop given w.last h.written.last
@@ -73,8 +71,11 @@ module _ (a s : Bytes) (stop : ℕ) (marks hints : List ℕ) (o₀ : Bytes) (b�
   fits_all = omega (arith, h.end, ap length h.same, length-append h.laid (left_over a s w (left_at s stop w.last)), h.room.room, h.out_len)
 
   module _ (buf : List ℕ) (r : Batch) (n : NextIs s stop w.last buf r) where
-    pub putting_batched : length buf ≡ 6000 → Batched s w.last buf r.n
-    putting_batched e = next_batched a s stop given w.last buf r n e
+    pub putting_chain : Chain s w.last (take r.n buf)
+    putting_chain = next_chain a s stop given w.last buf r n
+
+    pub putting_fit : length buf ≡ 6000 → r.n ≤ length buf
+    putting_fit = next_room a s stop given w.last buf r n
 
     pub putting_fits : Fitting a s w (take r.n buf) o
     putting_fits =
@@ -119,9 +120,9 @@ module _ (a s : Bytes) (stop : ℕ) (marks hints : List ℕ) (o₀ : Bytes) (b�
             ∙ sym (sets_append both (left_over a s d []) o₀ 0) ∙ ap (sets o₀ 0) (sym all_is)
 
       module _ (v : r.over ≡ false) where
-        pub putting_again : length buf ≡ 6000 → Putting a s stop marks hints o₀ buf p d
+        pub putting_again : length buf ≡ 6000 → Putting a s stop m o₀ buf p d
         putting_again e = record {
-          charted = record { given = given; marked = putting_marked; hinted = putting_hinted; len = e };
+          charted = record { given = given; mapped = putting_mapped; len = e };
           written = k.written;
           laid = both;
           same = onward (left_at s stop d.last) (next_on a s stop given w.last buf r n v ∙ ap (λ (l : ℕ). take r.n buf ++ left_at s stop l) (sym k.last));
@@ -134,4 +135,4 @@ module _ (a s : Bytes) (stop : ℕ) (marks hints : List ℕ) (o₀ : Bytes) (b�
         pub putting_less : length (left_at s stop d.last) < length (left_at s stop w.last)
         putting_less = rw k.last (next_less a s stop given w.last buf r n v)
 
-pub ruleset putting = (putting_start, putting_told, putting_marked, putting_hinted, putting_written, putting_len, putting_batched, putting_fits, putting_done, putting_rest, putting_end, putting_again, putting_less)
+pub ruleset putting = (putting_start, putting_told, putting_mapped, putting_written, putting_len, putting_chain, putting_fit, putting_fits, putting_done, putting_rest, putting_end, putting_again, putting_less)

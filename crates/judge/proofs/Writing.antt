@@ -5,12 +5,14 @@ use mathlib.Core.List.{List, [], ◌∷◌, ◌++◌, append-nil, append_assoc}
 use mathlib.Core.Bool.{Bool, true, false, not, cond}
 use mathlib.Core.Option.{none, some}
 use native.Mathlib.Omega.{arith}
+use lib.Dec.{ltb}
+use native.Mathlib.Numerals.{add-one}
 use borrow.Author.Tests.{eq-eqb, ne_eqb, not-true, not-false}
 use mir.Syntax.{w8, w64}
 use mir.Val.{Fits}
-use lib.ListN.{length, get_or, take, drop, length-append, length-take, length-drop, drop_of_length-le}
-use lib.Seq.{sets, length-sets, take_all}
-use Rattle.order.specs.declared.Ordering.TheVariants.{Less, Equal}
+use lib.ListN.{length, get_or, drop, length-append, length-take, length-drop, drop_of_length-le}
+use lib.Seq.{sets, length-sets, take_all, drop-cons}
+use Rattle.std.specs.declared.cmp.Ordering.TheVariants.{Less, Equal}
 use Rattle.order.specs.Comparison.{bytes}
 use Rattle.order.specs.Map.{Item, All, Below}
 use Rattle.order.specs.Walk.{emit}
@@ -34,14 +36,14 @@ use Rattle.walk.proofs.Walking.{walk_left_first, walk_right_first}
 use Rattle.message.specs.Take.{as_item}
 use Rattle.heard.specs.Field.{record_field}
 use Rattle.heard.specs.Place.{key_at, announces_at, told_at, Payload}
-use Rattle.judge.specs.declared.find.Found.{Found}
 use Rattle.judge.specs.declared.write.Write.{Write}
 use Rattle.judge.specs.Walk.{follows, settle, settled}
-use Rattle.judge.specs.State.{Last, no, one, Next, Chain, last_of, Finds, Batched, settle_from, left_over, Written, Fitting, Ending, Writes, settled_field, Settles}
+use Rattle.item.specs.declared.place.Part.{Part}
+use Rattle.judge.specs.State.{Last, no, one, Next, Chain, last_of, Finds, settle_from, left_over, Written, Fitting, Ending, Writes, settled_field, Settles}
 use Rattle.judge.proofs.Settled.{settle_end, settle_same, settle_other, settled_end, settled_more}
 use Rattle.judge.proofs.Sorting.{follows_same}
 use Rattle.judge.proofs.Finding.{encode_append, bytes_from}
-use Rattle.judge.proofs.Checking.{follows_key, last_payload, chain_next, chain_rest, next_of_lem}
+use Rattle.judge.proofs.Checking.{follows_key, last_payload, chain_next, chain_rest}
 
 abbrev S : Type 0
 S = change.Snapshot Bytes Bytes
@@ -190,15 +192,15 @@ end_step s last (one p h) A b =
     ∙ ap (λ (l : S). settled_field s last ++ encode Snapshot l) (apply_none bytes bytes A)
 
 -- what the snapshot has below the record is copied
-found_step : (a s : Bytes) (from x : ℕ) (r : Found) → Finds a from (key_at s x) r → (zs : List ℕ) →
-    encode Snapshot (apply bytes (items (drop from a)) (settle s x zs)) ≡ part a from r.at ++ encode Snapshot (apply bytes (items (drop r.next a)) (settle s x zs))
+found_step : (a s : Bytes) (from x : ℕ) (r : Part) → Finds a from (key_at s x) r → (zs : List ℕ) →
+    encode Snapshot (apply bytes (items (drop from a)) (settle s x zs)) ≡ part a from r.from ++ encode Snapshot (apply bytes (items (drop r.to a)) (settle s x zs))
 found_step a s from x r f zs =
     let g = heads s x zs in
-    let B : S = items (drop r.next a) in
+    let B : S = items (drop r.to a) in
     let y : Item Bytes (Change Bytes) = record { key = key_at s x; val = says g.flag } in
     let z : apply bytes (items (drop from a)) (y ∷ g.rest) ≡ f.passed ++ apply bytes B (y ∷ g.rest)
     = ap (λ (l : S). apply bytes l (y ∷ g.rest)) f.split ∙ apply_pass f.passed (f.here ++ B) y g.rest f.low
-    ∙ ap (λ (l : S). f.passed ++ l) (apply_here f.here B (key_at s x) g.flag r.here g.rest f.is_here f.counted f.rest) in
+    ∙ ap (λ (l : S). f.passed ++ l) (apply_here f.here B (key_at s x) g.flag (ltb r.from r.to) g.rest f.is_here f.counted f.rest) in
     rw g.is (ap (encode Snapshot) z ∙ encode_append f.passed (apply bytes B (y ∷ g.rest)) ∙ ap (λ (l : Bytes). l ++ encode Snapshot (apply bytes B (y ∷ g.rest))) f.bytes_are)
 
 part_size_lem : (a : Bytes) (from to : ℕ) → to ≤ length a → length (part a from to) ≡ to - from
@@ -232,26 +234,26 @@ module _ (a s : Bytes) (w : Write) (x : ℕ) (h : Written a s w) where
         some zero z = absurd (z refl)
         some (suc l) z = omega arith
 
-    module _ (q : t ≡ false) (r : Found) (f : Finds a w.field (key_at s x) r) where
+    module _ (q : t ≡ false) (r : Part) (f : Finds a w.field (key_at s x) r) where
       abbrev kept_field : Bytes
       kept_field = settled_field s w.last
 
       abbrev copied : Bytes
-      copied = part a w.field r.at
+      copied = part a w.field r.from
 
-      left_is : (m : ℕ) (zs : List ℕ) → left_over a s w (x ∷ zs) ≡ kept_field ++ (copied ++ left_over a s (record { last = x; field = r.next; end = m }) zs)
+      left_is : (m : ℕ) (zs : List ℕ) → left_over a s w (x ∷ zs) ≡ kept_field ++ (copied ++ left_over a s (record { last = x; field = r.to; end = m }) zs)
       left_is m zs =
           other_step s w.last x h.last (items (drop w.field a)) h.above (sym e ∙ q) zs
           ∙ ap (λ (l : Bytes). kept_field ++ l)
-          (found_step a s w.field x r f zs ∙ ap (λ (d : D). copied ++ encode Snapshot (apply bytes (items (drop r.next a)) d)) (sym (from_some s x zs n.behind)))
+          (found_step a s w.field x r f zs ∙ ap (λ (d : D). copied ++ encode Snapshot (apply bytes (items (drop r.to a)) d)) (sym (from_some s x zs n.behind)))
 
-      copied_size : length copied ≡ r.at - w.field
-      copied_size = part_size_lem a w.field r.at f.within
+      copied_size : length copied ≡ r.from - w.field
+      copied_size = part_size_lem a w.field r.from f.within
 
       module _ (o : Bytes) (g : Fitting a s w (x ∷ []) o) where
-        enough : w.end + (length kept_field + (r.at - w.field)) ≤ length o
+        enough : w.end + (length kept_field + (r.from - w.field)) ≤ length o
         enough =
-            let l : Bytes = left_over a s (record { last = x; field = r.next; end = 0 }) g.others in
+            let l : Bytes = left_over a s (record { last = x; field = r.to; end = 0 }) g.others in
             let z = ap length (left_is 0 g.others) in
             let u = length-append kept_field (copied ++ l) in
             let v = length-append copied l in
@@ -260,19 +262,19 @@ module _ (a s : Bytes) (w : Write) (x : ℕ) (h : Written a s w) where
         pub write_settles : Settles s w.last o w.end
         write_settles = record { told = h.last; room = omega (arith, enough) }
 
-        pub write_add : (m : ℕ) → m ≡ w.end + length (settled_field s w.last) → Fits w64 (length o) → m + (r.at - w.field) < 2 ^ 64
+        pub write_add : (m : ℕ) → m ≡ w.end + length (settled_field s w.last) → Fits w64 (length o) → m + (r.from - w.field) < 2 ^ 64
         write_add m z u = omega (arith, enough, z, u.fits)
 
-      pub write_lies : Lies a (record { from = w.field; to = r.at })
+      pub write_lies : Lies a (record { from = w.field; to = r.from })
       write_lies = record { ordered = f.on; within = f.within }
 
       pub write_found : (o p u : Bytes) (m : ℕ) → m ≡ w.end + length (settled_field s w.last) → p ≡ sets o w.end (settled_field s w.last) →
-          u ≡ sets p m (part_in a (record { from = w.field; to = r.at })) → Writes a s w (x ∷ []) o u (record { last = x; field = r.next; end = m + (r.at - w.field) })
+          u ≡ sets p m (part_in a (record { from = w.field; to = r.from })) → Writes a s w (x ∷ []) o u (record { last = x; field = r.to; end = m + (r.from - w.field) })
       write_found o p u m z i j = record {
         written = record { ready = f.ready; last = one n.payload n.behind; above = λ b. f.rest };
         last = refl;
         laid = kept_field ++ copied;
-        same = λ zs. left_is (m + (r.at - w.field)) zs ∙ sym (append_assoc kept_field copied (left_over a s (record { last = x; field = r.next; end = m + (r.at - w.field) }) zs));
+        same = λ zs. left_is (m + (r.from - w.field)) zs ∙ sym (append_assoc kept_field copied (left_over a s (record { last = x; field = r.to; end = m + (r.from - w.field) }) zs));
         out = j ∙ ap₂ (λ (l : Bytes) (k : ℕ). sets l k copied) i z ∙ sym (sets_append kept_field copied o w.end);
         end = omega (arith, z, copied_size, length-append kept_field copied);
       }
@@ -281,24 +283,21 @@ pub ruleset writes_one = (written_last, written_ready, write_follows, write_sett
 
 -- ---- write_batch
 
-pub record Writing (a s : Bytes) (buf : List ℕ) (n : ℕ) (o₀ : Bytes) (w₀ : Write) (o : Bytes) (w : Write) (i : ℕ) : Type 0 where
+pub record Writing (a s : Bytes) (xs : List ℕ) (o₀ : Bytes) (w₀ : Write) (o : Bytes) (w : Write) (i : ℕ) : Type 0 where
   pub written : Written a s w
-  pub chain : Chain s w.last (drop i (take n buf))
-  pub last : last_of w.last (drop i (take n buf)) ≡ last_of w₀.last (take n buf)
+  pub chain : Chain s w.last (drop i xs)
+  pub last : last_of w.last (drop i xs) ≡ last_of w₀.last xs
   pub laid : Bytes
-  pub same : (zs : List ℕ) → left_over a s w₀ (take n buf ++ zs) ≡ laid ++ left_over a s w (drop i (take n buf) ++ zs)
+  pub same : (zs : List ℕ) → left_over a s w₀ (xs ++ zs) ≡ laid ++ left_over a s w (drop i xs ++ zs)
   pub out : o ≡ sets o₀ w₀.end laid
   pub out_len : length o ≡ length o₀
   pub end : w.end ≡ w₀.end + length laid
-  pub fitting : Fitting a s w₀ (take n buf) o₀
-  pub room : n ≤ 6_000
-  pub len : length buf ≡ 6_000
-  pub within : i ≤ n
+  pub fitting : Fitting a s w₀ xs o₀
 
-pub writing_start : (a s : Bytes) (buf : List ℕ) (n : ℕ) (o : Bytes) (w : Write) → Written a s w → Batched s w.last buf n → Fitting a s w (take n buf) o → Writing a s buf n o w o w 0
-writing_start a s buf n o w h b f = record {
+pub writing_start : (a s : Bytes) (xs : List ℕ) (o : Bytes) (w : Write) → Written a s w → Chain s w.last xs → Fitting a s w xs o → Writing a s xs o w o w 0
+writing_start a s xs o w h b f = record {
   written = h;
-  chain = b.chain;
+  chain = b;
   last = refl;
   laid = [];
   same = λ zs. refl;
@@ -306,45 +305,36 @@ writing_start a s buf n o w h b f = record {
   out_len = refl;
   end = omega arith;
   fitting = f;
-  room = b.room;
-  len = b.len;
-  within = omega arith;
 }
 
-module _ (a s : Bytes) (buf : List ℕ) (n : ℕ) (o₀ : Bytes) (w₀ : Write) (o : Bytes) (w : Write) (i : ℕ) (h : Writing a s buf n o₀ w₀ o w i) where
+module _ (a s : Bytes) (xs : List ℕ) (o₀ : Bytes) (w₀ : Write) (o : Bytes) (w : Write) (i : ℕ) (h : Writing a s xs o₀ w₀ o w i) where
   pub writing_written : Written a s w
   writing_written = h.written
 
-  module _ (l : i < n) where
+  module _ (l : i < length xs) where
     abbrev rest : List ℕ
-    rest = drop (i + 1) (take n buf)
+    rest = drop (i + 1) xs
 
-    split : drop i (take n buf) ≡ get_or buf i 0 ∷ rest
-    split = next_of_lem buf n i l (omega (arith, h.room, h.len))
+    split : drop i xs ≡ get_or xs i 0 ∷ rest
+    split = rw add-one (drop-cons xs i 0 l)
 
-    pub writing_next : Next s w.last (get_or buf i 0)
-    writing_next = chain_next s w.last (get_or buf i 0) rest (subst (Chain s w.last) split h.chain)
+    pub writing_next : Next s w.last (get_or xs i 0)
+    writing_next = chain_next s w.last (get_or xs i 0) rest (subst (Chain s w.last) split h.chain)
 
-    pub writing_in : i < length buf
-    writing_in = omega (arith, h.room, h.len)
-
-    pub writing_add : i + 1 < 2 ^ 64
-    writing_add = omega (arith, h.room)
-
-    step : (zs : List ℕ) → left_over a s w₀ (take n buf ++ zs) ≡ h.laid ++ left_over a s w (get_or buf i 0 ∷ (rest ++ zs))
+    step : (zs : List ℕ) → left_over a s w₀ (xs ++ zs) ≡ h.laid ++ left_over a s w (get_or xs i 0 ∷ (rest ++ zs))
     step zs = h.same zs ∙ ap (λ (k : List ℕ). h.laid ++ left_over a s w (k ++ zs)) split
 
-    pub writing_fits : Fitting a s w (get_or buf i 0 ∷ []) o
+    pub writing_fits : Fitting a s w (get_or xs i 0 ∷ []) o
     writing_fits =
         let z = ap length (step h.fitting.others) in
-        let u = length-append h.laid (left_over a s w (get_or buf i 0 ∷ (rest ++ h.fitting.others))) in
+        let u = length-append h.laid (left_over a s w (get_or xs i 0 ∷ (rest ++ h.fitting.others))) in
         let v = ap length h.out in
         record { others = rest ++ h.fitting.others; room = omega (arith, z, u, v, length-sets o₀ w₀.end h.laid, h.end, h.fitting.room) }
 
-    pub writing_again : (p : Bytes) (r : Write) → Writes a s w (get_or buf i 0 ∷ []) o p r → Writing a s buf n o₀ w₀ p r (i + 1)
+    pub writing_again : (p : Bytes) (r : Write) → Writes a s w (get_or xs i 0 ∷ []) o p r → Writing a s xs o₀ w₀ p r (i + 1)
     writing_again p r q = record {
       written = q.written;
-      chain = rw q.last (chain_rest s w.last (get_or buf i 0) rest (subst (Chain s w.last) split h.chain));
+      chain = rw q.last (chain_rest s w.last (get_or xs i 0) rest (subst (Chain s w.last) split h.chain));
       last = rw q.last (ap (last_of w.last) (sym split) ∙ h.last);
       laid = h.laid ++ q.laid;
       same = λ zs. step zs ∙ ap (λ (k : Bytes). h.laid ++ k) (q.same (rest ++ zs)) ∙ sym (append_assoc h.laid q.laid (left_over a s r (rest ++ zs)));
@@ -352,14 +342,11 @@ module _ (a s : Bytes) (buf : List ℕ) (n : ℕ) (o₀ : Bytes) (w₀ : Write) 
       out_len = ap length q.out ∙ length-sets o w.end q.laid ∙ h.out_len;
       end = omega (arith, q.end, h.end, length-append h.laid q.laid);
       fitting = h.fitting;
-      room = h.room;
-      len = h.len;
-      within = omega (arith, l);
     }
 
-  pub writing_end : n ≤ i → Writes a s w₀ (take n buf) o₀ o w
+  pub writing_end : length xs ≤ i → Writes a s w₀ xs o₀ o w
   writing_end l =
-      let z : drop i (take n buf) ≡ [] = drop_of_length-le (take n buf) {i = i} (omega (arith, length-take n buf)) in
+      let z : drop i xs ≡ [] = drop_of_length-le xs {i = i} l in
       record {
         written = h.written;
         last = ap (last_of w.last) (sym z) ∙ h.last;
@@ -369,7 +356,7 @@ module _ (a s : Bytes) (buf : List ℕ) (n : ℕ) (o₀ : Bytes) (w₀ : Write) 
         end = h.end;
       }
 
-pub ruleset writing = (writing_start, writing_written, writing_next, writing_in, writing_add, writing_fits, writing_again, writing_end)
+pub ruleset writing = (writing_start, writing_written, writing_next, writing_fits, writing_again, writing_end)
 
 -- ---- put_rest
 

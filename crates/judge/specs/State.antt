@@ -1,7 +1,7 @@
 -- How far the walk of the messages over the snapshot has come.
-use Rattle.std.specs.Prelude.{ℕ, zero, suc, ◌+◌, ◌≤◌, ◌≡◌, List, [], ◌∷◌, ◌++◌, Bool, true, cond, eqb, ltb, leb, length, take, drop}
+use Rattle.std.specs.Prelude.{ℕ, zero, suc, ◌+◌, ◌≤◌, ◌≡◌, List, [], ◌∷◌, ◌++◌, Bool, true, cond, eqb, ltb, leb, length, drop, Ok, None, Option, Some}
 use Rattle.std.proofs.lemmas.List.Edits.{sets}
-use Rattle.order.specs.declared.Ordering.TheVariants.{Less}
+use Rattle.std.specs.declared.cmp.Ordering.TheVariants.{Less}
 use Rattle.order.specs.Comparison.{bytes}
 use Rattle.order.specs.Map.{Item, All, lookup, Below}
 use Rattle.change.specs.Difference as change
@@ -11,9 +11,9 @@ use Rattle.body.specs.declared.tag.Form.TheVariants.{Snapshot}
 use Rattle.payload.specs.Content.{Bytes}
 use Rattle.payload.specs.Payload.{encode, items}
 use Rattle.item.specs.declared.reading.Reading.TheVariants.{Announced}
+use Rattle.item.specs.declared.place.Part.{Part}
 use Rattle.item.specs.Front.{front_key}
 use Rattle.item.specs.Reading.{Ready}
-use Rattle.delta.specs.declared.admit.Admitted.TheVariants.{Yes}
 use Rattle.delta.specs.Admission.{admit_one_of}
 use Rattle.message.specs.declared.version.Version.{Version}
 use Rattle.heard.specs.declared.hear.Heard.{Heard}
@@ -22,12 +22,10 @@ use Rattle.heard.specs.Field.{record_field}
 use Rattle.heard.specs.Place.{size_at, key_at, announces_at, Payload, Messages}
 use Rattle.sorting.specs.Sorted.{sorted}
 use Rattle.batch.specs.Next.{is_above}
-use Rattle.batch.specs.Map.{Marked, Hinted, Mapped}
-use Rattle.judge.specs.declared.find.Found.{Found}
+use Rattle.batch.specs.declared.map.Map.{Map}
+use Rattle.batch.specs.Map.{Mapped}
 use Rattle.judge.specs.declared.check.Check.{Check}
 use Rattle.judge.specs.declared.write.Write.{Write}
-use Rattle.judge.specs.declared.judge.Length.{Length}
-use Rattle.judge.specs.declared.judge.Length.TheVariants.{Over, Within}
 use Rattle.judge.specs.Walk.{is_fault, lesser, least_fault, settle, settled}
 
 -- the offsets of messages that follow each other from `at` up to `stop`, fewer than `fuel`
@@ -48,10 +46,9 @@ pub record Given (a s : Bytes) (stop : ℕ) : Type 0 where
   pub messages : Messages s 8 (offsets s stop) stop
 
 -- and what was surveyed of them; a buffer
-pub record Charted (a s : Bytes) (stop : ℕ) (marks hints buf : List ℕ) : Type 0 where
+pub record Charted (a s : Bytes) (stop : ℕ) (m : Map) (buf : List ℕ) : Type 0 where
   pub given : Given a s stop
-  pub marked : Marked s stop marks
-  pub hinted : Hinted s stop hints
+  pub mapped : Mapped s stop m
   pub len : length buf ≡ 6_000
 
 -- no message (0), or one
@@ -80,19 +77,19 @@ pub data Beyond (s : Bytes) (last : ℕ) (k : Bytes) : Type 0 where
   first : last ≡ 0 → Beyond s last k
   above : bytes (key_at s last) k ≡ Less → Beyond s last k
 
--- from `from` up to `at` the snapshot a has items below the key k; there it has k, or else it does not have it
-pub record Finds (a : Bytes) (from : ℕ) (k : Bytes) (r : Found) : Type 0 where
+-- from `from` up to the part r the snapshot a has items below the key k; r is the item with the key k, or it is empty and there is none
+pub record Finds (a : Bytes) (from : ℕ) (k : Bytes) (r : Part) : Type 0 where
   pub passed : change.Snapshot Bytes Bytes
   pub low : All (λ (x : Item Bytes Bytes). bytes x.key k ≡ Less) passed
-  pub bytes_are : encode Snapshot passed ≡ part a from r.at
+  pub bytes_are : encode Snapshot passed ≡ part a from r.from
   pub here : change.Snapshot Bytes Bytes
   pub is_here : All (λ (x : Item Bytes Bytes). x.key ≡ k) here
-  pub counted : length here ≡ cond r.here 1 0
-  pub split : items (drop from a) ≡ passed ++ (here ++ items (drop r.next a))
-  pub rest : Below bytes k (items (drop r.next a))
-  pub on : from ≤ r.at
-  pub within : r.at ≤ length a
-  pub ready : Ready Announced a r.next
+  pub counted : length here ≡ cond (ltb r.from r.to) 1 0
+  pub split : items (drop from a) ≡ passed ++ (here ++ items (drop r.to a))
+  pub rest : Below bytes k (items (drop r.to a))
+  pub on : from ≤ r.from
+  pub within : r.from ≤ length a
+  pub ready : Ready Announced a r.to
 
 -- each record with this front stands below what a has from `at` on
 pub record IsPast (a : Bytes) (at front : ℕ) (r : Bool) : Type 0 where
@@ -117,12 +114,6 @@ pub record Checks (a s : Bytes) (c : Check) (xs : List ℕ) (r : Check) : Type 0
   pub checked : Checked a s r
   pub last : r.last ≡ last_of c.last xs
   pub same : (zs : List ℕ) → least_fault (items a) s c.last c.least (xs ++ zs) ≡ least_fault (items a) s r.last r.least zs
-
--- a buffer whose first n offsets are messages in message order behind `last`
-pub record Batched (s : Bytes) (last : ℕ) (buf : List ℕ) (n : ℕ) : Type 0 where
-  pub chain : Chain s last (take n buf)
-  pub room : n ≤ 6_000
-  pub len : length buf ≡ 6_000
 
 -- ---- writing
 
@@ -177,16 +168,17 @@ pub record RoomFor (a s : Bytes) (stop : ℕ) (o : Bytes) : Type 0 where
 -- ---- the answer
 
 -- a length, if it is within the room
-abbrev pub length_of : ℕ → ℕ → Length
-length_of n room = cond (leb n room) (Within n) Over
+abbrev pub length_of : ℕ → ℕ → Option ℕ
+length_of n room = cond (leb n room) (Some n) None
 
 -- the length of what all messages leave, by the bytes that they announce and withdraw; and a buffer
-pub record Balanced (a s : Bytes) (stop more less : ℕ) (marks hints buf : List ℕ) : Type 0 where
-  pub charted : Charted a s stop marks hints buf
+pub record Balanced (a s : Bytes) (stop more less : ℕ) (m : Map) (buf : List ℕ) : Type 0 where
+  pub charted : Charted a s stop m buf
   pub is : length (left_all a s stop) + less ≡ length a + more
 
 -- an answer was heard and surveyed, and our snapshot is admitted
-pub record Heeds (v : Version) (a m : Bytes) (h : Heard) (marks hints buf : List ℕ) : Type 0 where
-  pub fine : admit_one_of Snapshot a ≡ Yes
+pub record Heeds (v : Version) (a m : Bytes) (h : Heard) (c : Map) (buf : List ℕ) : Type 0 where
+  pub fine : admit_one_of Snapshot a ≡ Ok tt
   pub heard : HeardIs v m h
-  pub mapped : Mapped m h.over marks hints buf
+  pub mapped : Mapped m h.over c
+  pub len : length buf ≡ 6_000

@@ -1,14 +1,16 @@
 // Messages in message order against a snapshot: the first of the answer that does not fit.
-ghost use Rattle.std.specs.Prelude.{◌≡◌, cond, not, take};
+ghost use Rattle.std.specs.Prelude.{◌≡◌, cond, not};
 ghost use Rattle.heard.specs.Place.{Payload};
 ghost use Rattle.judge.specs.Walk.{follows, lesser};
-ghost use Rattle.judge.specs.State.{Last, Next, Checked, ChecksOne, Checks, Batched};
+ghost use Rattle.judge.specs.State.{Last, Next, Chain, Checked, ChecksOne, Checks};
 
 use crate::find::find;
 use heard::compare::same_record;
 use heard::place::announces;
+use std::cmp::min;
 
 // How far the search has come.
+// Kept: 0 for no message, since `least_fault` of the specs speaks of 0 as before all.
 #[derive(Clone, Copy)]
 pub struct Check {
     // The last message.
@@ -44,10 +46,7 @@ fn lower_fault(fault: bool, x: usize, least: usize) -> usize
     if !fault {
         return least;
     }
-    if x < least {
-        return x;
-    }
-    least
+    min(x, least)
 }
 
 // One message more.
@@ -65,30 +64,22 @@ fn check_one(snapshot: &[u8], s: &[u8], x: usize, c: Check) -> Check
         };
     }
     let found = find(snapshot, c.field, s, x);
-    let fault = is_fault(announces(s, x), found.here);
+    let fault = is_fault(announces(s, x), found.from < found.to);
     Check {
         last: x,
-        field: found.next,
+        field: found.to,
         least: lower_fault(fault, x, c.least),
     }
 }
 
-// The n messages of a batch more.
-pub(crate) fn check_batch(
-    snapshot: &[u8],
-    s: &[u8],
-    buf: &[usize; 6000],
-    n: usize,
-    from: Check,
-) -> Check
-    requires { Checked snapshot.now s.now from × Batched s.now from.last buf.now n }
-    ensures { Checks snapshot.now s.now from (take n buf.now) result }
+// The messages at these offsets more.
+pub(crate) fn check_batch(snapshot: &[u8], s: &[u8], offsets: &[usize], from: Check) -> Check
+    requires { Checked snapshot.now s.now from × Chain s.now from.last offsets.now }
+    ensures { Checks snapshot.now s.now from offsets.now result }
 {
     let mut c = from;
-    let mut i = 0;
-    while i < n {
-        c = check_one(snapshot, s, buf[i], c);
-        i += 1;
+    for x in offsets {
+        c = check_one(snapshot, s, *x, c);
     }
     c
 }

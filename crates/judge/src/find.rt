@@ -12,58 +12,41 @@ use heard::front::front_at;
 use heard::place::type_at;
 use heard::put::put_record;
 use item::front::front_in;
-use item::reading::{Read, Reading, read_at};
+use item::place::Part;
+use item::reading::{Reading, read_at};
 use number::word_at;
-use order::Ordering;
+use std::cmp::Ordering;
 use turn::seek::seek;
 
-// The first field that is not below a record, and whether it is the record.
-#[derive(Clone, Copy)]
-pub struct Found {
-    pub at: usize,
-    // Behind it, if it is the record.
-    pub next: usize,
-    pub here: bool,
-}
-
-// From `start` on the first item not below key.
-fn find_key(snapshot: &[u8], start: usize, name: &[u8], key: Key) -> Found
+// From `start` on the item with this key; where there is none, no bytes, in front of the first item above it.
+fn find_key(snapshot: &[u8], start: usize, name: &[u8], key: Key) -> Part
     requires { Ready Announced snapshot.now start }
     ensures { Finds snapshot.now start (key_in name.now key) result }
 {
     let mut at = start;
     loop {
-        let Read::One(item) = read_at(Reading::Announced, snapshot, at) else {
-            return Found {
-                at,
-                next: at,
-                here: false,
-            };
+        let Some(item) = read_at(Reading::Announced, snapshot, at) else {
+            return Part { from: at, to: at };
         };
         match key_compare(snapshot, item.key, name, key) {
             Ordering::Less => {
                 at = item.next;
             }
             Ordering::Equal => {
-                return Found {
-                    at,
-                    next: item.next,
-                    here: true,
+                return Part {
+                    from: at,
+                    to: item.next,
                 };
             }
             Ordering::Greater => {
-                return Found {
-                    at,
-                    next: at,
-                    here: false,
-                };
+                return Part { from: at, to: at };
             }
         }
     }
 }
 
-// From `start` on the first item not below the record of the message at x, which is laid into an array.
-fn find_named(snapshot: &[u8], start: usize, s: &[u8], x: usize, name: &mut [u8]) -> Found
+// The same of the record of the message at x, which is laid into an array.
+fn find_named(snapshot: &[u8], start: usize, s: &[u8], x: usize, name: &mut [u8]) -> Part
     requires { Ready Announced snapshot.now start × (Payload s.now x × (length (record_field (key_at s.now x)) ≤ length name.old)) }
     ensures { Finds snapshot.now start (key_at s.now x) result }
 {
@@ -77,7 +60,7 @@ fn find_named(snapshot: &[u8], start: usize, s: &[u8], x: usize, name: &mut [u8]
 }
 
 // The same with an array of its own: a short one is enough for a prefix.
-fn find_exactly(snapshot: &[u8], start: usize, s: &[u8], x: usize) -> Found
+fn find_exactly(snapshot: &[u8], start: usize, s: &[u8], x: usize) -> Part
     requires { Ready Announced snapshot.now start × Payload s.now x }
     ensures { Finds snapshot.now start (key_at s.now x) result }
 {
@@ -103,8 +86,8 @@ fn is_past(snapshot: &[u8], at: usize, front: usize) -> bool
     front < front_in(snapshot[at], word_at(snapshot, at + 3))
 }
 
-// From `start` on the first item not below the record of the message at x.
-pub fn find(snapshot: &[u8], start: usize, s: &[u8], x: usize) -> Found
+// From `start` on the item of the record of the message at x; where there is none, no bytes, in front of the first item above it.
+pub fn find(snapshot: &[u8], start: usize, s: &[u8], x: usize) -> Part
     requires { Ready Announced snapshot.now start × Payload s.now x }
     ensures { Finds snapshot.now start (key_at s.now x) result }
 {
@@ -112,11 +95,7 @@ pub fn find(snapshot: &[u8], start: usize, s: &[u8], x: usize) -> Found
     let run = seek(snapshot, start, front);
     let at = run.at;
     if is_past(snapshot, at, front) {
-        return Found {
-            at,
-            next: at,
-            here: false,
-        };
+        return Part { from: at, to: at };
     }
     find_exactly(snapshot, at, s, x)
 }

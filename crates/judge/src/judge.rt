@@ -1,6 +1,5 @@
 // An answer of another cache, judged.
 ghost use Rattle.std.specs.Prelude.{◌≡◌, ◌+◌, ◌-◌, ◌≤◌, length};
-ghost use Rattle.delta.specs.declared.admit.Admitted.TheVariants.{Yes};
 ghost use Rattle.delta.specs.Answer.{out_after};
 ghost use Rattle.heard.specs.Place.{Payload, told_at};
 ghost use Rattle.judge.specs.Answer.{misfit_as, judge_of, judge_out};
@@ -8,29 +7,25 @@ ghost use Rattle.judge.specs.State.{Balanced, Heeds, left_all, length_of};
 
 use crate::least::least_fault;
 use crate::put::put;
+use batch::map::{Chunk, Map};
 use batch::survey::survey;
 use body::tag::Form;
-use delta::admit::{Admitted, admit_one};
+use delta::admit::admit_one;
 use delta::refusal::Refusal;
-use heard::hear::{Heard, Stop, hear};
+use heard::hear::{Heard, hear};
 use heard::place::announces;
 use item::sink::Counts;
 use message::version::Version;
 use serial::timing::Timing;
 use serial::{Serial, Session};
 
+// What is accepted: the session, the serial and the times of the End of Data, and what was written.
 #[derive(Clone, Copy)]
-pub enum Judged {
-    // The session, the serial and the times of the End of Data, and what was written.
-    Accepted(Session, Serial, Timing, Counts),
-    Refused(Refusal),
-}
-
-// A length within the room, or one over it.
-#[derive(Clone, Copy)]
-pub enum Length {
-    Over,
-    Within(usize),
+pub struct Accepted {
+    pub session: Session,
+    pub serial: Serial,
+    pub times: Timing,
+    pub counts: Counts,
 }
 
 // The refusal of the message at x, which does not fit.
@@ -44,48 +39,47 @@ fn misfit(s: &[u8], x: usize) -> Refusal
     Refusal::Absent { at: x }
 }
 
-// A length to which bytes come and from which bytes go.
-fn sized(len: usize, more: usize, less: usize, room: usize) -> Length
+// A length to which bytes come and from which bytes go, if there is room for it.
+fn sized(len: usize, more: usize, less: usize, room: usize) -> Option<usize>
     requires { less ≤ len + more }
     ensures { result ≡ length_of (len + more - less) room }
 {
     if more < less {
         let n = len - (less - more);
         if room < n {
-            return Length::Over;
+            return None;
         }
-        return Length::Within(n);
+        return Some(n);
     }
     if room < len {
-        return Length::Over;
+        return None;
     }
     let come = more - less;
     if room - len < come {
-        return Length::Over;
+        return None;
     }
-    Length::Within(len + come)
+    Some(len + come)
 }
 
-// What all messages leave, if there is room for it.
+// What all messages leave, written, if there is room for it: its length.
 fn put_all(
     snapshot: &[u8],
     s: &[u8],
     stop: usize,
     more: usize,
     less: usize,
-    marks: &[usize; 560],
-    hints: &[usize; 962],
+    map: &Map,
     buf: &mut [usize; 6000],
     out: &mut [u8],
-) -> Length
-    requires { Balanced snapshot.now s.now stop more less marks.now hints.now buf.old }
-    ensures { (result ≡ length_of (length (left_all snapshot.now s.now stop)) (length out.old)) × (out.new ≡ out_after Yes (left_all snapshot.now s.now stop) out.old) }
+) -> Option<usize>
+    requires { Balanced snapshot.now s.now stop more less map.now buf.old }
+    ensures { (result ≡ length_of (length (left_all snapshot.now s.now stop)) (length out.old)) × (out.new ≡ out_after (Ok tt) (left_all snapshot.now s.now stop) out.old) }
 {
-    let Length::Within(len) = sized(snapshot.len(), more, less, out.len()) else {
-        return Length::Over;
+    let Some(len) = sized(snapshot.len(), more, less, out.len()) else {
+        return None;
     };
-    put(snapshot, s, stop, marks, hints, buf, out);
-    Length::Within(len)
+    put(snapshot, s, stop, map, buf, out);
+    Some(len)
 }
 
 // What was heard of an answer, on a good snapshot.
@@ -94,62 +88,66 @@ fn judge_heard(
     snapshot: &[u8],
     messages: &[u8],
     heard: Heard,
-    marks: &[usize; 560],
-    hints: &[usize; 962],
+    map: &Map,
     buf: &mut [usize; 6000],
     out: &mut [u8],
-) -> Judged
-    requires { Heeds version snapshot.now messages.now heard marks.now hints.now buf.old }
+) -> Result<Accepted, Refusal>
+    requires { Heeds version snapshot.now messages.now heard map.now buf.old }
     ensures { (result ≡ judge_of version snapshot.now messages.now (length out.old)) × (out.new ≡ judge_out version snapshot.now messages.now out.old) }
 {
     let over = heard.over;
-    let stop = heard.stop;
-    let least = least_fault(snapshot, messages, over, marks, hints, buf);
+    let least = least_fault(snapshot, messages, over, map, buf);
     if least < over {
-        return Judged::Refused(misfit(messages, least));
+        return Err(misfit(messages, least));
     }
-    match stop {
-        Stop::Faulty { at } => Judged::Refused(Refusal::Faulty { at }),
-        Stop::Ended(session, serial, times) => {
-            match put_all(
-                snapshot, messages, over, heard.more, heard.less, marks, hints, buf, out,
-            ) {
-                Length::Over => Judged::Refused(Refusal::NoRoom),
-                Length::Within(len) => Judged::Accepted(
-                    session,
-                    serial,
-                    times,
-                    Counts {
-                        len,
-                        announced: heard.announced,
-                        withdrawn: heard.withdrawn,
-                    },
-                ),
-            }
-        }
-    }
+    let end = match heard.stop {
+        Err(fault) => return Err(Refusal::Faulty { at: fault.at }),
+        Ok(end) => end,
+    };
+    let sums = heard.sums;
+    let Some(len) = put_all(
+        snapshot, messages, over, sums.more, sums.less, map, buf, out,
+    ) else {
+        return Err(Refusal::NoRoom);
+    };
+    Ok(Accepted {
+        session: end.session,
+        serial: end.serial,
+        times: end.times,
+        counts: Counts {
+            len,
+            announced: sums.announced,
+            withdrawn: sums.withdrawn,
+        },
+    })
 }
 
 // An answer of messages on a snapshot, and the snapshot that it leaves.
-pub fn judge(version: Version, snapshot: &[u8], messages: &[u8], out: &mut [u8]) -> Judged
+pub fn judge(
+    version: Version,
+    snapshot: &[u8],
+    messages: &[u8],
+    out: &mut [u8],
+) -> Result<Accepted, Refusal>
     ensures { (result ≡ judge_of version snapshot.now messages.now (length out.old)) × (out.new ≡ judge_out version snapshot.now messages.now out.old) }
 {
-    if let Admitted::No(r) = admit_one(Form::Snapshot, snapshot) {
-        return Judged::Refused(r);
-    }
+    admit_one(Form::Snapshot, snapshot)?;
     let heard = hear(version, messages);
-    let mut marks = [0usize; 560];
-    let mut hints = [0usize; 962];
+    let none = Chunk {
+        from: 0,
+        mid: 0,
+        over: 0,
+        least: 0,
+        most: 0,
+    };
+    let mut map = Map {
+        chunks: [none; 112],
+        hints: [0; 960],
+        held: 0,
+        step: 0,
+    };
     let mut buf = [0usize; 6000];
-    survey(
-        messages,
-        heard.over,
-        heard.announced + heard.withdrawn,
-        &mut marks,
-        &mut hints,
-        &mut buf,
-    );
-    judge_heard(
-        version, snapshot, messages, heard, &marks, &hints, &mut buf, out,
-    )
+    let count = heard.sums.announced + heard.sums.withdrawn;
+    survey(messages, heard.over, count, &mut map, &mut buf);
+    judge_heard(version, snapshot, messages, heard, &map, &mut buf, out)
 }

@@ -5,6 +5,7 @@ ghost use Rattle.judge.specs.Walk.{least_fault};
 ghost use Rattle.judge.specs.State.{ordered, Charted};
 
 use crate::check::{Check, check_batch};
+use batch::map::Map;
 use batch::next::next;
 
 // `stop` if there is none.
@@ -12,11 +13,10 @@ pub(crate) fn least_fault(
     snapshot: &[u8],
     s: &[u8],
     stop: usize,
-    marks: &[usize; 560],
-    hints: &[usize; 962],
+    map: &Map,
     buf: &mut [usize; 6000],
 ) -> usize
-    requires { Charted snapshot.now s.now stop marks.now hints.now buf.old }
+    requires { Charted snapshot.now s.now stop map.now buf.old }
     ensures { (result ≡ least_fault (items snapshot.now) s.now 0 stop (ordered s.now stop)) × (length buf.new ≡ 6000) }
 {
     let mut c = Check {
@@ -25,8 +25,8 @@ pub(crate) fn least_fault(
         least: stop,
     };
     loop {
-        let batch = next(s, stop, c.last, marks, hints, buf);
-        c = check_batch(snapshot, s, buf, batch.n, c);
+        let batch = next(s, stop, c.last, map, buf);
+        c = check_batch(snapshot, s, &buf[..batch.n], c);
         if batch.over {
             return c.least;
         }

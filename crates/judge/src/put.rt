@@ -4,6 +4,7 @@ ghost use Rattle.std.proofs.lemmas.List.Edits.{sets};
 ghost use Rattle.judge.specs.State.{Charted, RoomFor, left_all, left_over, Written, Ending};
 
 use crate::write::{Write, settle, write_batch};
+use batch::map::Map;
 use batch::next::next;
 use item::copy::copy;
 use item::place::Part;
@@ -30,12 +31,11 @@ pub(crate) fn put(
     snapshot: &[u8],
     s: &[u8],
     stop: usize,
-    marks: &[usize; 560],
-    hints: &[usize; 962],
+    map: &Map,
     buf: &mut [usize; 6000],
     out: &mut [u8],
 )
-    requires { Charted snapshot.now s.now stop marks.now hints.now buf.old × RoomFor snapshot.now s.now stop out.old }
+    requires { Charted snapshot.now s.now stop map.now buf.old × RoomFor snapshot.now s.now stop out.old }
     ensures { out.new ≡ sets out.old 0 (left_all snapshot.now s.now stop) }
 {
     let mut w = Write {
@@ -44,8 +44,8 @@ pub(crate) fn put(
         end: 0,
     };
     loop {
-        let batch = next(s, stop, w.last, marks, hints, buf);
-        w = write_batch(snapshot, s, buf, batch.n, out, w);
+        let batch = next(s, stop, w.last, map, buf);
+        w = write_batch(snapshot, s, &buf[..batch.n], out, w);
         if batch.over {
             put_rest(snapshot, s, out, w);
             return;

@@ -1,7 +1,7 @@
 // Messages in message order over a snapshot: what they leave of it, written.
-ghost use Rattle.std.specs.Prelude.{◌≡◌, ◌∷◌, [], ◌+◌, length, take};
+ghost use Rattle.std.specs.Prelude.{◌≡◌, ◌∷◌, [], ◌+◌, length};
 ghost use Rattle.std.proofs.lemmas.List.Edits.{sets};
-ghost use Rattle.judge.specs.State.{Next, Batched, Written, Fitting, Writes, settled_field, Settles};
+ghost use Rattle.judge.specs.State.{Next, Chain, Written, Fitting, Writes, settled_field, Settles};
 
 use crate::check::is_next;
 use crate::find::find;
@@ -11,6 +11,7 @@ use item::copy::copy;
 use item::place::Part;
 
 // How far the writing has come.
+// Kept: 0 for no message, as in `Check`.
 #[derive(Clone, Copy)]
 pub struct Write {
     // The last message: its record is settled when the next one comes.
@@ -49,33 +50,30 @@ fn write_one(snapshot: &[u8], s: &[u8], x: usize, out: &mut [u8], w: Write) -> W
     }
     let from = w.field;
     let found = find(snapshot, from, s, x);
-    let to = found.at;
+    let to = found.from;
     let end = settle(s, w.last, out, w.end);
     copy(snapshot, Part { from, to }, out, end);
     Write {
         last: x,
-        field: found.next,
+        field: found.to,
         end: end + (to - from),
     }
 }
 
-// The n messages of a batch more.
+// The messages at these offsets more.
 pub(crate) fn write_batch(
     snapshot: &[u8],
     s: &[u8],
-    buf: &[usize; 6000],
-    n: usize,
+    offsets: &[usize],
     out: &mut [u8],
     from: Write,
 ) -> Write
-    requires { Written snapshot.now s.now from × (Batched s.now from.last buf.now n × Fitting snapshot.now s.now from (take n buf.now) out.old) }
-    ensures { Writes snapshot.now s.now from (take n buf.now) out.old out.new result }
+    requires { Written snapshot.now s.now from × (Chain s.now from.last offsets.now × Fitting snapshot.now s.now from offsets.now out.old) }
+    ensures { Writes snapshot.now s.now from offsets.now out.old out.new result }
 {
     let mut w = from;
-    let mut i = 0;
-    while i < n {
-        w = write_one(snapshot, s, buf[i], out, w);
-        i += 1;
+    for x in offsets {
+        w = write_one(snapshot, s, *x, out, w);
     }
     w
 }

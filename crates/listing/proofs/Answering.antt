@@ -1,4 +1,5 @@
 -- Laws of the two entries.
+use Rattle.delta.specs.Answer.{Constructed}
 use Prim.Native.Nat.{ℕ, ◌≤◌}
 use mathlib.Core.Path.{◌≡◌, refl, sym, ap, ◌∙◌}
 use mathlib.Core.List.{[]}
@@ -15,7 +16,6 @@ use Rattle.serial.specs.declared.Serial.{Serial}
 use Rattle.serial.specs.Serial.{zero_serial}
 use Rattle.number.proofs.Eights.{Octets}
 use Rattle.body.specs.declared.tag.Form.TheVariants.{Snapshot, Delta}
-use Rattle.field.specs.declared.verdict.Verdict.TheVariants.{Fine}
 use Rattle.field.specs.Head.{front}
 use Rattle.field.specs.Verdict.{judge, verdict_f, verdict}
 use Rattle.payload.specs.Content.{Bytes}
@@ -23,13 +23,8 @@ use Rattle.payload.specs.Written.{written_over}
 use Rattle.payload.specs.Payload.{changes}
 use Rattle.payload.proofs.Faithful.{faithful, entries_end}
 use Rattle.delta.specs.declared.refusal.Refusal.{Refusal}
-use Rattle.delta.specs.declared.refusal.Refusal.TheVariants as refusal
-use Rattle.delta.specs.declared.admit.Admitted.{Admitted}
-use Rattle.delta.specs.declared.admit.Admitted.TheVariants.{Yes, No}
 use Rattle.item.specs.declared.sink.Counts.{Counts}
 use Rattle.item.specs.declared.reading.Reading.TheVariants.{Changes}
-use Rattle.delta.specs.declared.construct.Constructed.{Constructed}
-use Rattle.delta.specs.declared.construct.Constructed.TheVariants as constructed
 use Rattle.delta.specs.Admission.{and_then, judged_of, admit_one_of, admit_of}
 use Rattle.delta.specs.Inputs.{Inputs}
 use Rattle.item.specs.Write.{plus_all, zero}
@@ -38,8 +33,6 @@ use Rattle.delta.specs.Answer.{difference_of, counts_of, out_after, construct_at
 use Rattle.delta.proofs.Answering.{admitted_inputs, runs_of, counts_are}
 use Rattle.delta.proofs.Demand.{difference_short}
 use Rattle.payload.specs.Limit.{limit}
-use Rattle.listing.specs.declared.listing.Listed.{Listed}
-use Rattle.listing.specs.declared.listing.Listed.TheVariants as listed
 use Rattle.listing.specs.declared.report.Report.{Report}
 use Rattle.listing.specs.declared.report.Report.TheVariants as report
 use Rattle.listing.specs.declared.diff.File.{File}
@@ -48,18 +41,20 @@ use Rattle.listing.specs.Listing.{listing_of}
 use Rattle.listing.specs.Report.{written_of, listed_of}
 use Rattle.listing.specs.Told.{len_of, Told}
 use Rattle.listing.specs.Answer.{list_of, list_out, report_at, report_of, text_of, delta_after, diff_of, diff_out}
+use Rattle.delta.specs.Admission.{Admitted}
+use Rattle.std.specs.Prelude.{Err, Ok, None, Result, Some}
 
 -- ---- counts_of
 
-nothing_fine : verdict Delta [] ≡ Fine
+nothing_fine : verdict Delta [] ≡ Ok tt
 unfolding verdict verdict_f judge front
 nothing_fine = refl
 
-and_yes : (x : Admitted) → and_then x Yes ≡ x
-and_yes Yes = refl
-and_yes (No r) = refl
+and_yes : (x : Admitted) → and_then x (Ok tt) ≡ x
+and_yes (Ok tt) = refl
+and_yes (Err r) = refl
 
-module _ (d : Bytes) (a : admit_one_of Delta d ≡ Yes) where
+module _ (d : Bytes) (a : admit_one_of Delta d ≡ Ok tt) where
   inputs : Inputs Delta d Delta []
   inputs =
       admitted_inputs Delta d Delta []
@@ -77,15 +72,15 @@ pub ruleset counting = (counts_runs, counts_is)
 -- ---- listing
 
 module _ (d : Bytes) (serial : Serial) (o : Bytes) (x : Admitted) (e : x ≡ admit_one_of Delta d) where
-  pub list_refused : (r : Refusal) → x ≡ No r → listed.Refused r ≡ list_of d serial (length o)
+  pub list_refused : (r : Refusal) → x ≡ Err r → Err r ≡ list_of d serial (length o)
   unfolding list_of
   list_refused r q = rw (← e, q)
 
-  pub list_left : (r : Refusal) → x ≡ No r → o ≡ list_out d serial o
+  pub list_left : (r : Refusal) → x ≡ Err r → o ≡ list_out d serial o
   unfolding list_out
   list_left r q = rw (← e, q)
 
-  module _ (y : x ≡ Yes) (c : Counts) (k : c ≡ counts_of d) where
+  module _ (y : x ≡ Ok tt) (c : Counts) (k : c ≡ counts_of d) where
     all : take c.len d ≡ d
     all = rw k (take-length d)
 
@@ -94,93 +89,51 @@ module _ (d : Bytes) (serial : Serial) (o : Bytes) (x : Admitted) (e : x ≡ adm
         let short : length d ≤ limit Delta = (inputs d (sym e ∙ y)).short_a in
         record { is = record { within = rw k (omega arith); short = rw k short; are = rw all k } }
 
-    pub list_made : (r : Listed) → r ≡ listed_of (listing_of serial (take c.len d)) (length o) → r ≡ list_of d serial (length o)
+    pub list_made : (r : Result ℕ Refusal) → r ≡ listed_of (listing_of serial (take c.len d)) (length o) → r ≡ list_of d serial (length o)
     unfolding list_of
     list_made r q = rw (← e, y, ← all) q
 
-    pub list_out_lem : (p : Bytes) → p ≡ out_after Yes (listing_of serial (take c.len d)) o → p ≡ list_out d serial o
+    pub list_out_lem : (p : Bytes) → p ≡ out_after (Ok tt) (listing_of serial (take c.len d)) o → p ≡ list_out d serial o
     unfolding list_out
     list_out_lem p q = rw (← e, y, ← all) q
 
-pub list_yes : (d : Bytes) (x : Admitted) → x ≡ admit_one_of Delta d → x ≡ Yes → admit_one_of Delta d ≡ Yes
+pub list_yes : (d : Bytes) (x : Admitted) → x ≡ admit_one_of Delta d → x ≡ Ok tt → admit_one_of Delta d ≡ Ok tt
 list_yes d x e y = sym e ∙ y
 
 pub ruleset entering = (list_refused, list_left, list_told, list_made, list_out_lem, list_yes)
 
 -- ---- report_change, report_of
 
-module _ (old new d : Bytes) (x : Constructed) (e : x ≡ construct_of old new zero_serial (length d)) where
-  pub change_made : (s : Serial) (c : Counts) → x ≡ constructed.Delta s c → report.Changed s c ≡ report_at (construct_of old new zero_serial (length d))
-  change_made s c q = rw (← e, q)
-
-  pub change_none : x ≡ constructed.NoChange → report.Same ≡ report_at (construct_of old new zero_serial (length d))
-  change_none q = rw (← e, q)
-
-  pub change_refused : (r : Refusal) → x ≡ constructed.Refused r → report.Refused r ≡ report_at (construct_of old new zero_serial (length d))
-  change_refused r q = rw (← e, q)
-
-pub ruleset changing = (change_made, change_none, change_refused)
-
 module _ (f : File) (old : Bytes) (g : File) (new d : Bytes) where
-  pub absent_first : f ≡ Absent → report.Absent 1 ≡ report_of f old g new (length d)
-  absent_first e = rw e
-
   pub absent_second : f ≡ TooLong → g ≡ Absent → report.Absent 2 ≡ report_of f old g new (length d)
   absent_second e q = rw (e, q)
-
-  pub absent_other : f ≡ Read → g ≡ Absent → report.Absent 2 ≡ report_of f old g new (length d)
-  absent_other e q = rw (e, q)
-
-  pub long_both : f ≡ TooLong → g ≡ TooLong → report.Refused (refusal.TooLong 1) ≡ report_of f old g new (length d)
-  long_both e q = rw (e, q)
-
-  pub long_first : f ≡ TooLong → g ≡ Read → report.Refused (refusal.TooLong 1) ≡ report_of f old g new (length d)
-  long_first e q = rw (e, q)
-
-  pub long_second : f ≡ Read → g ≡ TooLong → report.Refused (refusal.TooLong 2) ≡ report_of f old g new (length d)
-  long_second e q = rw (e, q)
-
-  pub read_both : (r : Report) → f ≡ Read → g ≡ Read → r ≡ report_at (construct_of old new zero_serial (length d)) → r ≡ report_of f old g new (length d)
-  read_both r e q h = rw (e, q) h
-
-  -- the delta stays as it was unless both were read
-  pub kept_absent : f ≡ Absent → d ≡ delta_after f old g new d
-  kept_absent e = rw e
-
-  pub kept_long : f ≡ TooLong → d ≡ delta_after f old g new d
-  kept_long e = rw e
-
-  pub kept_second : f ≡ Read → g ≡ Absent → d ≡ delta_after f old g new d
-  kept_second e q = rw (e, q)
-
-  pub kept_other : f ≡ Read → g ≡ TooLong → d ≡ delta_after f old g new d
-  kept_other e q = rw (e, q)
-
-  pub made_both : (p : Bytes) → f ≡ Read → g ≡ Read → p ≡ construct_out old new d → p ≡ delta_after f old g new d
-  made_both p e q h = rw (e, q) h
-
-pub ruleset filing = (absent_first, absent_second, absent_other, long_both, long_first, long_second, read_both, kept_absent, kept_long, kept_second, kept_other, made_both)
 
 -- ---- diff_text
 
 -- what `construct` wrote, where it answers a delta
 pub record Made (old new : Bytes) (room : ℕ) (c : Counts) : Type 0 where
-  pub admitted : admit_of Snapshot old Snapshot new ≡ Yes
+  pub admitted : admit_of Snapshot old Snapshot new ≡ Ok tt
   pub counts : c ≡ counts_of (difference_of old new)
   pub fits : length (difference_of old new) ≤ room
+
+-- the counts of a delta that was written
+abbrev written_counts : Constructed → Counts
+written_counts (Ok (Some (s, c))) = c
+written_counts (Ok None) = counts_of []
+written_counts (Err r) = counts_of []
 
 module _ (old new : Bytes) (room : ℕ) where
   made_at : (x : Admitted) → admit_of Snapshot old Snapshot new ≡ x → (t w : Bool) → eqb (length (difference_of old new)) 0 ≡ t →
       leb (length (difference_of old new)) room ≡ w → (s : Serial) (c : Counts) →
-      construct_at x (difference_of old new) zero_serial room ≡ constructed.Delta s c → Made old new room c
-  made_at (No r) a t w p l s c e = never cc
-  made_at Yes a true w p l s c e = let q = rw p at e in never cc
-  made_at Yes a false false p l s c e = let q = rw (p, l) at e in never cc
-  made_at Yes a false true p l s c e =
+      construct_at x (difference_of old new) zero_serial room ≡ Ok (Some (s, c)) → Made old new room c
+  made_at (Err r) a t w p l s c e = never cc
+  made_at (Ok tt) a true w p l s c e = let q = rw p at e in never cc
+  made_at (Ok tt) a false false p l s c e = let q = rw (p, l) at e in never cc
+  made_at (Ok tt) a false true p l s c e =
       let q = rw (p, l) at e in
-      record { admitted = a; counts = cc; fits = leb-true (length (difference_of old new)) room l }
+      record { admitted = a; counts = sym (ap written_counts q); fits = leb-true (length (difference_of old new)) room l }
 
-  pub made : (s : Serial) (c : Counts) → construct_of old new zero_serial room ≡ constructed.Delta s c → Made old new room c
+  pub made : (s : Serial) (c : Counts) → construct_of old new zero_serial room ≡ Ok (Some (s, c)) → Made old new room c
   unfolding construct_of
   made s c e =
       made_at (admit_of Snapshot old Snapshot new) refl (eqb (length (difference_of old new)) 0) (leb (length (difference_of old new)) room) refl refl s c e
@@ -192,7 +145,7 @@ module _ (old new d : Bytes) where
   abbrev answer : Constructed
   answer = construct_of old new zero_serial (length d)
 
-  module _ (s : Serial) (c : Counts) (e : answer ≡ constructed.Delta s c) where
+  module _ (s : Serial) (c : Counts) (e : answer ≡ Ok (Some (s, c))) where
     out_is : construct_out old new d ≡ written_over D d
     unfolding construct_out
     out_is = let m = made old new (length d) s c e in rw (m.admitted, le-leb (length D) (length d) m.fits)
@@ -202,9 +155,9 @@ module _ (old new d : Bytes) where
 
   -- the text says the difference
   written_both : (x : Constructed) → answer ≡ x → written_of (report_at x) (take (len_of (report_at x)) (construct_out old new d)) ≡ written_of (report_at x) D
-  written_both (constructed.Delta s c) e = ap (listing_of s) (part_is s c e)
-  written_both constructed.NoChange e = refl
-  written_both (constructed.Refused r) e = refl
+  written_both (Ok (Some (s, c))) e = ap (listing_of s) (part_is s c e)
+  written_both (Ok None) e = refl
+  written_both (Err r) e = refl
 
   written_at : (f g : File) → written_of (report_of f old g new (length d)) (take (len_of (report_of f old g new (length d))) (delta_after f old g new d)) ≡ text_of f old g new (length d)
   unfolding text_of
@@ -217,7 +170,7 @@ module _ (old new d : Bytes) where
   written_at Read Read = written_both answer refl
 
   module _ (o : Octets old) (n : Octets new) where
-    short : admit_of Snapshot old Snapshot new ≡ Yes → length D ≤ limit Delta
+    short : admit_of Snapshot old Snapshot new ≡ Ok tt → length D ≤ limit Delta
     short a =
         let i = admitted_inputs Snapshot old Snapshot new a in
         difference_short old new
@@ -225,9 +178,9 @@ module _ (old new d : Bytes) where
         (record { good = record { octets = λ k. (n k).fits; fine = i.fine_b }; short = i.short_b })
 
     told_both : (x : Constructed) → answer ≡ x → Told (report_at x) (construct_out old new d)
-    told_both constructed.NoChange e = record { is = tt }
-    told_both (constructed.Refused r) e = record { is = tt }
-    told_both (constructed.Delta s c) e =
+    told_both (Ok None) e = record { is = tt }
+    told_both (Err r) e = record { is = tt }
+    told_both (Ok (Some (s, c))) e =
         let m = made old new (length d) s c e in
         record {
           is = record {
@@ -254,12 +207,12 @@ module _ (f : File) (old : Bytes) (g : File) (new d d' : Bytes) (r : Report) (e 
   says = rw (e, q) (written_at old new d f g)
 
   module _ (o : Bytes) where
-    pub diff_answer : (x : Listed) → x ≡ listed_of (written_of r (take (len_of r) d')) (length o) → x ≡ diff_of f old g new (length d) (length o)
+    pub diff_answer : (x : Result ℕ Refusal) → x ≡ listed_of (written_of r (take (len_of r) d')) (length o) → x ≡ diff_of f old g new (length d) (length o)
     unfolding diff_of
     diff_answer x h = h ∙ ap (λ (t : Bytes). listed_of t (length o)) says
 
-    pub diff_out_lem : (p : Bytes) → p ≡ out_after Yes (written_of r (take (len_of r) d')) o → p ≡ diff_out f old g new (length d) o
+    pub diff_out_lem : (p : Bytes) → p ≡ out_after (Ok tt) (written_of r (take (len_of r) d')) o → p ≡ diff_out f old g new (length d) o
     unfolding diff_out
-    diff_out_lem p h = h ∙ ap (λ (t : Bytes). out_after Yes t o) says
+    diff_out_lem p h = h ∙ ap (λ (t : Bytes). out_after (Ok tt) t o) says
 
 pub ruleset diffing = (diff_told, diff_answer, diff_out_lem)

@@ -1,10 +1,10 @@
 -- Laws of the lines of a listing.
-use Prim.Native.Nat.{ℕ, ◌+◌, ◌-◌, ◌*◌, ◌/◌, ◌%◌, ◌^◌, ◌<◌, ◌≤◌}
+use Prim.Native.Nat.{ℕ, ◌+◌, ◌-◌, ◌*◌, ◌^◌, ◌<◌, ◌≤◌}
 use mathlib.Core.Path.{◌≡◌, refl}
 use mathlib.Core.List.{[], ◌∷◌, ◌++◌}
 use native.Mathlib.Numerals.{add-one}
 use native.Mathlib.Omega.{arith}
-use borrow.Author.Tests.{eq-eqb, ne_eqb, lt-ltb, le-ltb}
+use borrow.Author.Tests.{lt-ltb, le-ltb}
 use lib.ListN.{length, get_or, drop, length-append, drop_of_length-le}
 use lib.Seq.{drop-cons}
 use Rattle.number.specs.Bytes.{part}
@@ -26,23 +26,11 @@ use Rattle.listing.proofs.Putting.{puts_append, Left, left_start, left_end, left
 
 -- ---- marks and digits
 
-pub mark_w : (tag : ℕ) → tag % 16 ≡ 2 → 87 ≡ mark tag
-mark_w tag e = rw (eq-eqb (tag % 16) 2 e)
-
-pub mark_a : (tag : ℕ) → (tag % 16 ≡ 2 → ⊥) → 65 ≡ mark tag
-mark_a tag h = rw (ne_eqb (tag % 16) 2 h)
-
 pub digit_low : (d : ℕ) → d < 10 → 48 + d ≡ hex_digit d
 digit_low d h = rw (lt-ltb d 10 h)
 
 pub digit_high : (d : ℕ) → 10 ≤ d → 87 + d ≡ hex_digit d
 digit_high d h = rw (le-ltb d 10 h)
-
-pub hex_put : (x high low : ℕ) (o p : Bytes) (i r : ℕ) → high ≡ hex_digit (x / 16) → low ≡ hex_digit (x % 16) →
-    Puts o i (32 ∷ high ∷ low ∷ []) p r → Puts o i (hex x) p r
-hex_put x high low o p i r e d f = rw (← e, ← d) f
-
-pub ruleset marks = (mark_w, mark_a)
 
 pub ruleset digits = (digit_low, digit_high)
 

@@ -3,11 +3,9 @@ use Prim.Native.Nat.{ℕ, ◌+◌}
 use mathlib.Core.Path.{◌≡◌, refl, sym, ap, ◌∙◌}
 use mathlib.Core.List.{[], ◌++◌}
 use native.Mathlib.Omega.{arith}
-use native.Mathlib.Nat.{sub-zero}
 use lib.ListN.{length, length-append}
-use lib.Seq.{sets, length-sets, take-length}
+use lib.Seq.{sets, length-sets}
 use Rattle.payload.specs.Content.{Bytes}
-use Rattle.item.specs.Place.{part_in}
 use Rattle.item.proofs.Sinking.{sets_append}
 use Rattle.listing.specs.Text.{decimal}
 use Rattle.listing.specs.Put.{Puts}
@@ -23,10 +21,6 @@ puts_append o p q a b i j k f g = record {
 pub named_put : (w o p q : Bytes) (n i j k : ℕ) → Puts o i w p j → Puts p j (decimal n) q k → Puts o i (named w n) q k
 unfolding named
 named_put w o p q n i j k f g = puts_append o p q w (decimal n) i j k f g
-
--- the whole of a text
-pub text_put : (text o p : Bytes) (i : ℕ) → p ≡ sets o i (part_in text (record { from = 0; to = length text })) → Puts o i text p (i + length text)
-text_put text o p i e = record { laid = e ∙ rw (sub-zero, take-length text); end = refl }
 
 -- ---- a loop that puts a text bit by bit
 

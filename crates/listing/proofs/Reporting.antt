@@ -12,23 +12,18 @@ use lib.Seq.{sets-eq, length-take-le}
 use Rattle.serial.specs.declared.Serial.{Serial}
 use Rattle.field.specs.Cells.{cells}
 use Rattle.payload.specs.Content.{Bytes}
-use Rattle.delta.specs.declared.refusal.Refusal.{Refusal}
 use Rattle.delta.specs.declared.refusal.Refusal.TheVariants as refusal
-use Rattle.delta.specs.declared.admit.Admitted.TheVariants.{Yes}
 use Rattle.item.specs.declared.sink.Counts.{Counts}
-use Rattle.delta.specs.Refusal.{number_of, argument_of, offset_of}
 use Rattle.delta.specs.Answer.{counts_of, out_after}
 use Rattle.payload.specs.Limit.{limit}
 use Rattle.body.specs.declared.tag.Form.TheVariants.{Delta}
-use Rattle.listing.specs.declared.report.Report.{Report}
-use Rattle.listing.specs.declared.report.Report.TheVariants.{Changed, Same, Refused, Absent}
-use Rattle.listing.specs.declared.listing.Listed.TheVariants as listed
 use Rattle.listing.specs.Text.{ascii, decimal_f, decimal}
 use Rattle.listing.specs.Put.{Puts}
 use Rattle.listing.specs.Listing.{named, three_of, head_of, lines_of, listing_of}
-use Rattle.listing.specs.Report.{refused_line, absent_line, written_of, listed_of}
-use Rattle.listing.specs.Told.{len_of, Counted, Told}
+use Rattle.listing.specs.Report.{absent_line, listed_of}
+use Rattle.listing.specs.Told.{Counted}
 use Rattle.listing.proofs.Putting.{puts_append}
+use Rattle.std.specs.Prelude.{Ok, Err}
 
 -- ---- how long a number and a line of three are
 
@@ -113,10 +108,6 @@ pub ruleset listing = (head_low, listing_put, counted_short, counted_long, count
 
 -- ---- the other lines
 
-pub refused_put : (r : Refusal) (x y z : ℕ) (o p : Bytes) (e : ℕ) → x ≡ number_of r → y ≡ argument_of r → z ≡ offset_of r →
-    Puts o 0 (three_of (ascii "refused ") x (ascii " argument ") y (ascii " at ") z) p e → Puts o 0 (refused_line r) p e
-refused_put r x y z o p e a b c f = rw (← a, ← b, ← c) f
-
 module _ (n : ℕ) (o p : Bytes) (i : ℕ) (f : Puts o 0 (named (ascii "no file ") n) p i) where
   pub absent_last : i + 1 < 2 ^ 64
   absent_last = omega (arith, f.end, named_short (ascii "no file ") n (omega arith))
@@ -126,40 +117,19 @@ module _ (n : ℕ) (o p : Bytes) (i : ℕ) (f : Puts o 0 (named (ascii "no file 
 
 pub ruleset absent = (absent_last, absent_put)
 
--- ---- a report
-
-module _ (report : Report) (s o p : Bytes) (e : ℕ) where
-  pub report_counted : (serial : Serial) (counts : Counts) → report ≡ Changed serial counts → Told report s → Counted counts s
-  report_counted serial counts q t = rw q at t.is
-
-  pub report_changed : (serial : Serial) (counts : Counts) → report ≡ Changed serial counts → Puts o 0 (listing_of serial (take counts.len s)) p e →
-      Puts o 0 (written_of report (take (len_of report) s)) p e
-  report_changed serial counts q f = rw q f
-
-  pub report_same : report ≡ Same → Puts o 0 (ascii "no change\n") p e → Puts o 0 (written_of report (take (len_of report) s)) p e
-  report_same q f = rw q f
-
-  pub report_refused : (r : Refusal) → report ≡ Refused r → Puts o 0 (refused_line r) p e → Puts o 0 (written_of report (take (len_of report) s)) p e
-  report_refused r q f = rw q f
-
-  pub report_absent : (n : ℕ) → report ≡ Absent n → Puts o 0 (absent_line n) p e → Puts o 0 (written_of report (take (len_of report) s)) p e
-  report_absent n q f = rw q f
-
-pub ruleset reporting = (report_counted, report_changed, report_same, report_refused, report_absent)
-
 -- ---- all of it, or nothing
 
 module _ (text x x' : Bytes) (len : ℕ) (m : Puts x 0 text x' len) (o : Bytes) where
-  pub write_none : length o < len → listed.Refused refusal.NoRoom ≡ listed_of text (length o)
+  pub write_none : length o < len → Err refusal.NoRoom ≡ listed_of text (length o)
   write_none h = rw (lt-leb (length text) (length o) (omega (arith, m.end)))
 
-  pub write_left : length o < len → o ≡ out_after Yes text o
+  pub write_left : length o < len → o ≡ out_after (Ok tt) text o
   write_left h = rw (lt-leb (length text) (length o) (omega (arith, m.end)))
 
-  pub write_len : len ≤ length o → listed.Text len ≡ listed_of text (length o)
-  write_len h = rw (le-leb (length text) (length o) (omega (arith, m.end))) (ap listed.Text (m.end ∙ zero-add (length text)))
+  pub write_len : len ≤ length o → Ok len ≡ listed_of text (length o)
+  write_len h = rw (le-leb (length text) (length o) (omega (arith, m.end))) (ap Ok (m.end ∙ zero-add (length text)))
 
-  pub write_out : (p : Bytes) (r : ℕ) → len ≤ length o → Puts o 0 text p r → p ≡ out_after Yes text o
+  pub write_out : (p : Bytes) (r : ℕ) → len ≤ length o → Puts o 0 text p r → p ≡ out_after (Ok tt) text o
   write_out p r h f =
       let k : length text ≤ length o = omega (arith, m.end) in
       rw (le-leb (length text) (length o) k) (f.laid ∙ sets-eq text o 0 (simp zero-add k) ∙ simp zero-add)

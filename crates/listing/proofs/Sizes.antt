@@ -1,4 +1,5 @@
 -- How long a text can be, and so what room always suffices.
+use Rattle.delta.specs.Answer.{Constructed}
 use Prim.Native.Nat.{ℕ, zero, suc, ◌+◌, ◌*◌, ◌≤◌}
 use mathlib.Core.Path.{◌≡◌, refl}
 use mathlib.Core.List.{[], ◌∷◌}
@@ -13,11 +14,8 @@ use Rattle.field.proofs.Fronts.{shorter}
 use Rattle.payload.specs.Content.{Bytes}
 use Rattle.delta.specs.declared.refusal.Refusal.{Refusal}
 use Rattle.delta.specs.declared.refusal.Refusal.TheVariants as refusal
-use Rattle.delta.specs.declared.construct.Constructed.{Constructed}
-use Rattle.delta.specs.declared.construct.Constructed.TheVariants as constructed
 use Rattle.delta.specs.Refusal.{number_of, argument_of, offset_of}
 use Rattle.delta.specs.Answer.{difference_of, counts_of, construct_of}
-use Rattle.listing.specs.declared.listing.Listed.TheVariants.{Text}
 use Rattle.listing.specs.declared.diff.File.{File}
 use Rattle.listing.specs.declared.diff.File.TheVariants.{Absent, TooLong, Read}
 use Rattle.listing.specs.Text.{ascii}
@@ -27,6 +25,7 @@ use Rattle.listing.specs.Answer.{report_at, text_of, diff_of}
 use Rattle.listing.proofs.Lining.{line_length}
 use Rattle.listing.proofs.Reporting.{named_short, three_short}
 use Rattle.listing.proofs.Answering.{made}
+use Rattle.std.specs.Prelude.{Err, None, Ok, Some}
 
 -- a field of n bytes has a line of at most 3 n
 lines_at : (n : ℕ) (s : Bytes) → ((t : Bytes) → length (lines_of (cells_f n t)) ≤ 3 * length t) → (f : Front) → front s ≡ f →
@@ -61,9 +60,9 @@ absent_short n = omega (arith, named_short (ascii "no file ") n (omega arith), l
 
 module _ (old new : Bytes) (room : ℕ) where
   answer_short : (x : Constructed) → construct_of old new zero_serial room ≡ x → length (written_of (report_at x) (difference_of old new)) ≤ 3 * room + 109
-  answer_short (constructed.Delta s c) e = omega (arith, listing_short s (difference_of old new), (made old new room s c e).fits)
-  answer_short constructed.NoChange e = omega arith
-  answer_short (constructed.Refused r) e = omega (arith, refused_short r)
+  answer_short (Ok (Some (s, c))) e = omega (arith, listing_short s (difference_of old new), (made old new room s c e).fits)
+  answer_short (Ok None) e = omega arith
+  answer_short (Err r) e = omega (arith, refused_short r)
 
   -- what is written for two files, with this much room for the delta
   pub text_short : (f g : File) → length (text_of f old g new room) ≤ 3 * room + 109
@@ -77,6 +76,6 @@ module _ (old new : Bytes) (room : ℕ) where
   text_short Read Read = answer_short (construct_of old new zero_serial room) refl
 
   -- so with that room for the text, it is always written
-  pub always_written : (f g : File) (space : ℕ) → 3 * room + 109 ≤ space → diff_of f old g new room space ≡ Text (length (text_of f old g new room))
+  pub always_written : (f g : File) (space : ℕ) → 3 * room + 109 ≤ space → diff_of f old g new room space ≡ Ok (length (text_of f old g new room))
   unfolding diff_of
   always_written f g space h = rw (le-leb (length (text_of f old g new room)) space (omega (arith, text_short f g)))

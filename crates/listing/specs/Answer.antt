@@ -1,33 +1,31 @@
 -- What the two entries answer, and what they leave in what was lent.
-use Rattle.std.specs.Prelude.{ℕ}
+use Rattle.delta.specs.Answer.{Constructed}
+use Rattle.std.specs.Prelude.{ℕ, Err, Ok, None, Option, Result, Some}
 use Rattle.serial.specs.declared.Serial.{Serial}
 use Rattle.serial.specs.Serial.{zero_serial}
 use Rattle.body.specs.declared.tag.Form.TheVariants.{Delta}
 use Rattle.payload.specs.Content.{Bytes}
 use Rattle.delta.specs.declared.refusal.Refusal.TheVariants as refusal
-use Rattle.delta.specs.declared.admit.Admitted.{Admitted}
-use Rattle.delta.specs.declared.admit.Admitted.TheVariants.{Yes, No}
-use Rattle.delta.specs.declared.construct.Constructed.{Constructed}
-use Rattle.delta.specs.declared.construct.Constructed.TheVariants as constructed
 use Rattle.delta.specs.Admission.{admit_one_of}
 use Rattle.delta.specs.Answer.{difference_of, construct_of, construct_out, out_after}
-use Rattle.listing.specs.declared.listing.Listed.{Listed}
-use Rattle.listing.specs.declared.listing.Listed.TheVariants as listed
 use Rattle.listing.specs.declared.report.Report.{Report}
 use Rattle.listing.specs.declared.report.Report.TheVariants as report
 use Rattle.listing.specs.declared.diff.File.{File}
 use Rattle.listing.specs.declared.diff.File.TheVariants.{Absent, TooLong, Read}
 use Rattle.listing.specs.Listing.{listing_of}
 use Rattle.listing.specs.Report.{written_of, listed_of}
+use Rattle.delta.specs.Admission.{Admitted}
+use Rattle.item.specs.declared.sink.Counts.{Counts}
+use Rattle.delta.specs.declared.refusal.Refusal.{Refusal}
 
 -- ---- listing
 
-abbrev pub list_at : Admitted → Bytes → ℕ → Listed
-list_at (No r) text room = listed.Refused r
-list_at Yes text room = listed_of text room
+abbrev pub list_at : Admitted → Bytes → ℕ → Result ℕ Refusal
+list_at (Err r) text room = Err r
+list_at (Ok tt) text room = listed_of text room
 
 -- delta, serial, room: refusals 10, 1, 12 and 2 of a lone delta, then 4
-unfoldable pub list_of : Bytes → Serial → ℕ → Listed
+unfoldable pub list_of : Bytes → Serial → ℕ → Result ℕ Refusal
 list_of d serial room = list_at (admit_one_of Delta d) (listing_of serial d) room
 
 unfoldable pub list_out : Bytes → Serial → Bytes → Bytes
@@ -36,9 +34,9 @@ list_out d serial out = out_after (admit_one_of Delta d) (listing_of serial d) o
 -- ---- diff_text
 
 abbrev pub report_at : Constructed → Report
-report_at (constructed.Delta serial counts) = report.Changed serial counts
-report_at constructed.NoChange = report.Same
-report_at (constructed.Refused r) = report.Refused r
+report_at (Ok (Some (serial, counts))) = report.Changed serial counts
+report_at (Ok None) = report.Same
+report_at (Err r) = report.Refused r
 
 -- absent files first, then those that are too long, then what `construct` answers with the old serial 0; room is that for the delta
 abbrev pub report_of : File → Bytes → File → Bytes → ℕ → Report
@@ -63,8 +61,8 @@ delta_after Read old TooLong new delta = delta
 delta_after Read old Read new delta = construct_out old new delta
 
 -- two files, room for the delta, room for the text
-unfoldable pub diff_of : File → Bytes → File → Bytes → ℕ → ℕ → Listed
+unfoldable pub diff_of : File → Bytes → File → Bytes → ℕ → ℕ → Result ℕ Refusal
 diff_of first old second new room space = listed_of (text_of first old second new room) space
 
 unfoldable pub diff_out : File → Bytes → File → Bytes → ℕ → Bytes → Bytes
-diff_out first old second new room out = out_after Yes (text_of first old second new room) out
+diff_out first old second new room out = out_after (Ok tt) (text_of first old second new room) out

@@ -1,13 +1,11 @@
 -- What is written: a listing, or one line.
-use Rattle.std.specs.Prelude.{ℕ, ◌++◌, cond, leb, length}
+use Rattle.std.specs.Prelude.{ℕ, ◌++◌, cond, leb, length, Err, Ok, Result}
 use Rattle.payload.specs.Content.{Bytes}
 use Rattle.delta.specs.declared.refusal.Refusal.{Refusal}
 use Rattle.delta.specs.declared.refusal.Refusal.TheVariants as refusal
 use Rattle.delta.specs.Refusal.{number_of, argument_of, offset_of}
 use Rattle.listing.specs.declared.report.Report.{Report}
 use Rattle.listing.specs.declared.report.Report.TheVariants.{Changed, Same, Refused, Absent}
-use Rattle.listing.specs.declared.listing.Listed.{Listed}
-use Rattle.listing.specs.declared.listing.Listed.TheVariants as listed
 use Rattle.listing.specs.Text.{ascii}
 use Rattle.listing.specs.Listing.{named, three_of, listing_of}
 
@@ -27,5 +25,5 @@ written_of (Refused r) d = refused_line r
 written_of (Absent n) d = absent_line n
 
 -- the text's length, if there is room for it
-abbrev pub listed_of : Bytes → ℕ → Listed
-listed_of text room = cond (leb (length text) room) (listed.Text (length text)) (listed.Refused refusal.NoRoom)
+abbrev pub listed_of : Bytes → ℕ → Result ℕ Refusal
+listed_of text room = cond (leb (length text) room) (Ok (length text)) (Err refusal.NoRoom)

@@ -9,12 +9,13 @@ ghost use Rattle.listing.specs.Put.{Puts};
 
 use crate::text::put_text;
 use field::head::{Field, field_at};
+use payload::withdraws;
 
 // W marks tags ending in 2, A those ending in 1 or 3.
 fn mark_of(tag: u8) -> u8
     ensures { result ≡ mark tag }
 {
-    if tag % 16 == 2 { b'W' } else { b'A' }
+    if withdraws(tag) { b'W' } else { b'A' }
 }
 
 // A hex digit, in lower case.
@@ -40,11 +41,9 @@ fn put_hexes(s: &[u8], out: &mut [u8], i: usize) -> usize
     requires { (length s.now ≤ limit Delta) × (i < 2 ^ 62) }
     ensures { Puts out.old i (hexes s.now) out.new result }
 {
-    let mut k = 0;
     let mut end = i;
-    while k < s.len() {
-        end = put_hex(s[k], out, end);
-        k += 1;
+    for &x in s {
+        end = put_hex(x, out, end);
     }
     end
 }
@@ -69,8 +68,7 @@ pub fn put_lines(delta: &[u8], out: &mut [u8], i: usize) -> usize
     let mut end = i;
     loop {
         match field_at(delta, at) {
-            Field::End => return end,
-            Field::Cut => return end,
+            Field::End | Field::Cut => return end,
             Field::Whole { tag, from, to } => {
                 end = put_line(tag, &delta[from..to], out, end);
                 at = to;

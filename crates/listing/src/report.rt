@@ -1,6 +1,5 @@
 // What is written: a listing, or one line.
 ghost use Rattle.std.specs.Prelude.{◌≡◌, length, take};
-ghost use Rattle.delta.specs.declared.admit.Admitted.TheVariants.{Yes};
 ghost use Rattle.delta.specs.Answer.{out_after};
 ghost use Rattle.listing.specs.Listing.{listing_of};
 ghost use Rattle.listing.specs.Put.{Puts};
@@ -8,12 +7,12 @@ ghost use Rattle.listing.specs.Report.{refused_line, absent_line, written_of, li
 ghost use Rattle.listing.specs.Told.{Counted, Told, len_of};
 
 use crate::line::put_lines;
-use crate::listing::Listed;
 use crate::text::{put_named, put_text, put_three};
 use delta::refusal::Refusal;
 use item::sink::Counts;
 use serial::Serial;
 
+// Kept: four texts; a file is the number that is written.
 #[derive(Clone, Copy)]
 pub enum Report {
     // A delta: its target serial, and how long it is, with its counts.
@@ -83,16 +82,16 @@ fn put_report(report: Report, delta: &[u8], out: &mut [u8]) -> usize
     }
 }
 
-// The text of a report, if out has room for all of it; else nothing is written.
-pub fn write_report(report: Report, delta: &[u8], out: &mut [u8]) -> Listed
+// The text of a report, written, if out has room for all of it: its length; else nothing is written.
+pub fn write_report(report: Report, delta: &[u8], out: &mut [u8]) -> Result<usize, Refusal>
     requires { Told report delta.now }
-    ensures { (result ≡ listed_of (written_of report (take (len_of report) delta.now)) (length out.old)) × (out.new ≡ out_after Yes (written_of report (take (len_of report) delta.now)) out.old) }
+    ensures { (result ≡ listed_of (written_of report (take (len_of report) delta.now)) (length out.old)) × (out.new ≡ out_after (Ok tt) (written_of report (take (len_of report) delta.now)) out.old) }
 {
     let mut nothing = [0u8; 1];
     let len = put_report(report, delta, &mut nothing);
     if out.len() < len {
-        return Listed::Refused(Refusal::NoRoom);
+        return Err(Refusal::NoRoom);
     }
     put_report(report, delta, out);
-    Listed::Text(len)
+    Ok(len)
 }

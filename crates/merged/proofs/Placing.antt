@@ -21,18 +21,21 @@ use Rattle.payload.specs.Content.{Bytes, entry_of}
 use Rattle.payload.specs.Payload.{entries, changes}
 use Rattle.payload.specs.Limit.{limit}
 use Rattle.payload.proofs.Faithful.{faithful}
-use Rattle.walk.specs.declared.walk.Output.{Output}
 use Rattle.item.specs.Write.{writes}
 use Rattle.walk.specs.Walk.{output_of, whole_out}
 use Rattle.item.proofs.Places.{drop_take}
 use Rattle.merged.specs.declared.place.Places.{Places}
 use Rattle.past.specs.Store.{total, cuts}
-use Rattle.cursors.specs.Cursor.{D, run, runs_n, runs, left_of, items_in, items_left, Stands, Bounded}
+use Rattle.cursors.specs.Cursor.{D, run, runs_n, runs, left_of, items_in, items_left, Stands, Within, Bounded}
+use Rattle.cursors.specs.declared.runs.Walk.{Walk}
+use Rattle.cursors.specs.Walk.{LinedUp, Starts, remains}
 use Rattle.merged.specs.Place.{between, Summed, Placed, IsFine, Stored, last_merged}
 use Rattle.past.proofs.Lists.{all_map}
 use Rattle.past.proofs.Store.{cuts_length}
 use Rattle.item.proofs.Fronts.{drop_bytes}
 use Rattle.merged.proofs.Sizing.{merged_size}
+use Rattle.item.specs.declared.sink.Counts.{Counts}
+use Rattle.std.specs.Prelude.{Option}
 
 -- ---- sums
 
@@ -223,17 +226,17 @@ module _ (s : Bytes) (lengths : List ℕ) (n : ℕ) (r : Places) (p : Placed len
           let f = items_few (take (n - (n - d)) (drop (n - d) lengths)) (drop (total (take (n - d) lengths)) s) in
           rw (runs_are (n - d) (n - (n - d)) (omega arith)) (omega (arith, length-drop (total (take (n - d) lengths)) s, t.small))
 
-      pub last_most : ((i : ℕ) → Fits w8 (get_or s i 0)) → (m : ℕ) → m ≡ total (between lengths (n - d) n) →
+      most : ((i : ℕ) → Fits w8 (get_or s i 0)) → (m : ℕ) → m ≡ total (between lengths (n - d) n) →
           length (writes Delta (left_of s r.at r.ends (n - d) n)) ≤ m
-      last_most o m e =
+      most o m e =
           let f : All IsFine (cuts (take (n - (n - d)) (drop (n - d) lengths)) (drop (total (take (n - d) lengths)) s)) =
           rw cuts_tail (all_drop IsFine (n - d) (cuts (take n lengths) s) t.good) in
           rw (e, runs_are (n - d) (n - (n - d)) (omega arith))
           (merged_size (take (n - (n - d)) (drop (n - d) lengths)) (drop (total (take (n - d) lengths)) s)
           (drop_bytes (total (take (n - d) lengths)) s (λ i. (o i).fits)) f)
 
-      pub last_bounded : Bounded s r.at r.ends (n - d) n
-      last_bounded = record {
+      bounded : Bounded s r.at r.ends (n - d) n
+      bounded = record {
         walks = record {
           within = record { few = t.few; long = p.long; long_ends = p.long_ends; each = stands_at };
           up = sorted_all;
@@ -241,11 +244,24 @@ module _ (s : Bytes) (lengths : List ℕ) (n : ℕ) (r : Places) (p : Placed len
         few = few_left;
       }
 
-    pub last_output : (w : Output) (m : ℕ) → w ≡ output_of Delta (left_of s r.at r.ends (n - d) n) m → w ≡ output_of Delta (last_merged s lengths n d) m
-    last_output w m e = e ∙ ap (λ (x : D). output_of Delta x m) left_is
+      pub last_within : Within s r.at r.ends n
+      last_within = bounded.walks.within
 
-    pub last_bytes : (o o' : Bytes) → o' ≡ whole_out Delta (left_of s r.at r.ends (n - d) n) o → o' ≡ whole_out Delta (last_merged s lengths n d) o
-    last_bytes o o' e = e ∙ ap (λ (x : D). whole_out Delta x o) left_is
+      module _ (w : Walk) (l : LinedUp s r.at r.ends (n - d) n w) where
+        pub last_starts : Starts w
+        last_starts = record { bounded = rw (l.store, l.at, l.ends, l.from, l.n) bounded; fronted = rw (l.store, l.at, l.ends, l.from, l.n) l.fronted }
+
+        pub last_most : ((i : ℕ) → Fits w8 (get_or s i 0)) → (m : ℕ) → m ≡ total (between lengths (n - d) n) → length (writes Delta (remains w)) ≤ m
+        last_most o m e = rw (l.store, l.at, l.ends, l.from, l.n) (most o m e)
+
+        pub remains_is : remains w ≡ last_merged s lengths n d
+        remains_is = rw (l.store, l.at, l.ends, l.from, l.n) left_is
+
+        pub last_output : (c : Option Counts) (m : ℕ) → c ≡ output_of Delta (remains w) m → c ≡ output_of Delta (last_merged s lengths n d) m
+        last_output c m e = e ∙ ap (λ (x : D). output_of Delta x m) remains_is
+
+        pub last_bytes : (o o' : Bytes) → o' ≡ whole_out Delta (remains w) o → o' ≡ whole_out Delta (last_merged s lengths n d) o
+        last_bytes o o' e = e ∙ ap (λ (x : D). whole_out Delta x o) remains_is
 
 pub stored_summed : (s : Bytes) (lengths : List ℕ) (n : ℕ) → Stored s lengths n → Summed lengths n
 stored_summed s lengths n t = record { few = t.few; small = omega (arith, t.fits, t.small) }
@@ -256,4 +272,4 @@ last_ordered n d = omega arith
 pub last_few : (s : Bytes) (lengths : List ℕ) (n : ℕ) → Stored s lengths n → n ≤ 64
 last_few s lengths n t = t.few
 
-pub ruleset lasting = (stored_summed, last_ordered, last_few, last_most, last_bounded, last_output, last_bytes)
+pub ruleset lasting = (stored_summed, last_ordered, last_few, last_within, last_starts, last_most, last_output, last_bytes)

@@ -6,8 +6,8 @@ use mathlib.Core.Option.{Option, none, some}
 use native.Mathlib.Omega.{arith}
 use lib.ListN.{length, take, drop, length-append, length-take}
 use lib.Seq.{sets}
-use Rattle.order.specs.declared.Ordering.{Ordering}
-use Rattle.order.specs.declared.Ordering.TheVariants.{Less, Equal, Greater}
+use Rattle.std.specs.declared.cmp.Ordering.{Ordering}
+use Rattle.std.specs.declared.cmp.Ordering.TheVariants.{Less, Equal, Greater}
 use Rattle.order.specs.Comparison.{bytes}
 use Rattle.order.specs.Map.{Item, All}
 use Rattle.order.specs.Walk.{emit}
@@ -21,7 +21,6 @@ use Rattle.payload.specs.Content.{Bytes, values_for}
 use Rattle.payload.specs.Payload.{changes, encode}
 use Rattle.payload.proofs.Faithful.{faithful}
 use Rattle.item.specs.declared.sink.Counts.{Counts}
-use Rattle.walk.specs.declared.walk.Output.TheVariants.{Written}
 use Rattle.item.specs.Write.{writes, plus_all, zero}
 use Rattle.walk.specs.Walk.{output_of, whole_out}
 use Rattle.walk.proofs.Walking.{whole_fits, whole_bytes}
@@ -29,6 +28,7 @@ use Rattle.past.specs.Store.{total, cuts}
 use Rattle.cursors.specs.Cursor.{D}
 use Rattle.merged.specs.Place.{IsFine}
 use Rattle.item.proofs.Fronts.{drop_bytes, take_bytes}
+use Rattle.std.specs.Prelude.{Some}
 
 -- ---- one key
 
@@ -124,7 +124,7 @@ module _ (d : D) (c : Counts) (e : c ≡ plus_all Delta zero d) (o : Bytes) (mos
   len_is : c.len ≤ length o
   len_is = rw e (omega (arith, s, h))
 
-  pub sure_fits : Written c ≡ output_of Delta d (length o)
+  pub sure_fits : Some c ≡ output_of Delta d (length o)
   sure_fits = whole_fits Delta d c e o len_is
 
   pub sure_bytes : (p : Bytes) → p ≡ sets o 0 (writes Delta d) → p ≡ whole_out Delta d o

@@ -1,11 +1,10 @@
 -- Where the held deltas lie in the delta store, and the last of them merged.
-use Rattle.std.specs.Prelude.{ℕ, ◌+◌, ◌-◌, ◌≤◌, ◌<◌, ◌≡◌, List, map, length, get_or, take, drop}
+use Rattle.std.specs.Prelude.{ℕ, ◌+◌, ◌-◌, ◌≤◌, ◌<◌, ◌≡◌, List, map, length, get_or, take, drop, Ok}
 use Rattle.order.specs.Comparison.{bytes}
 use Rattle.order.specs.Map.{All}
 use Rattle.change.specs.Merge.{merge_all}
 use Rattle.change.specs.History.{last_n}
 use Rattle.body.specs.declared.tag.Form.TheVariants.{Delta}
-use Rattle.field.specs.declared.verdict.Verdict.TheVariants.{Fine}
 use Rattle.field.specs.Verdict.{verdict}
 use Rattle.payload.specs.Content.{Bytes}
 use Rattle.payload.specs.Payload.{changes}
@@ -32,7 +31,7 @@ pub record Placed (lengths : List ℕ) (n : ℕ) (r : Places) : Type 0 where
   pub stops : (i : ℕ) → i < n → get_or r.ends i 0 ≡ total (take i lengths) + get_or lengths i 0
 
 abbrev pub IsFine : Bytes → Type 0
-IsFine d = verdict Delta d ≡ Fine
+IsFine d = verdict Delta d ≡ Ok tt
 
 -- the store holds n deltas of these lengths, each of them good
 pub record Stored (s : Bytes) (lengths : List ℕ) (n : ℕ) : Type 0 where

@@ -4,58 +4,55 @@ ghost use Rattle.std.specs.Prelude.{◌≡◌, ◌≤◌, length};
 ghost use Rattle.body.specs.declared.tag.Form.TheVariants.{Delta};
 ghost use Rattle.item.specs.Write.{plus_all, writes, zero};
 ghost use Rattle.walk.specs.Walk.{output_of, whole_out};
-ghost use Rattle.cursors.specs.Cursor.{Bounded, left_of};
+ghost use Rattle.cursors.specs.Walk.{Starts, remains};
 ghost use Rattle.merged.specs.Place.{Stored, last_merged};
 
 use crate::lengths::sum_lengths;
-use crate::place::{Places, place_all};
+use crate::place::place_all;
 use crate::put::put_all;
+use cursors::runs::Walk;
 use item::sink::Counts;
-use walk::walk::Output;
 
-// The counts of the merge.
-fn measure(store: &[u8], places: Places, from: usize, n: usize) -> Counts
-    requires { Bounded store.now places.at places.ends from n }
-    ensures { result ≡ plus_all Delta zero (left_of store.now places.at places.ends from n) }
+// The counts of the merge, by a walk of its own.
+fn measure(mut walk: Walk) -> Counts
+    requires { Starts walk }
+    ensures { result ≡ plus_all Delta zero (remains walk.entry) }
 {
-    let mut at = places.at;
-    let ends = places.ends;
     let mut nothing = [0u8; 1];
-    put_all(store, &mut at, &ends, from, n, &mut nothing)
+    put_all(&mut walk, &mut nothing)
 }
 
 // The merge, which has at most so many bytes, if out has room for all of it; else nothing is written.
-fn put_whole(
-    store: &[u8],
-    places: Places,
-    from: usize,
-    n: usize,
-    most: usize,
-    out: &mut [u8],
-) -> Output
-    requires { Bounded store.now places.at places.ends from n × (length (writes Delta (left_of store.now places.at places.ends from n)) ≤ most) }
-    ensures { (result ≡ output_of Delta (left_of store.now places.at places.ends from n) (length out.old)) × (out.new ≡ whole_out Delta (left_of store.now places.at places.ends from n) out.old) }
+// Kept: as in `walk`, measured first and then written, over another walk; a closure that writes would be called under two outputs.
+fn put_whole(walk: &mut Walk, most: usize, out: &mut [u8]) -> Option<Counts>
+    requires { Starts walk.old × (length (writes Delta (remains walk.old)) ≤ most) }
+    ensures { (result ≡ output_of Delta (remains walk.old) (length out.old)) × (out.new ≡ whole_out Delta (remains walk.old) out.old) }
 {
-    let mut at = places.at;
-    let ends = places.ends;
     if most <= out.len() {
-        return Output::Written(put_all(store, &mut at, &ends, from, n, out));
+        return Some(put_all(walk, out));
     }
-    let counts = measure(store, places, from, n);
+    let counts = measure(*walk);
     let len = counts.len;
     if out.len() < len {
-        return Output::NoRoom;
+        return None;
     }
-    put_all(store, &mut at, &ends, from, n, out);
-    Output::Written(counts)
+    put_all(walk, out);
+    Some(counts)
 }
 
 // The last d of the n deltas of these lengths, merged, earliest first.
-pub fn merged_last(store: &[u8], lengths: [u32; 64], n: usize, d: usize, out: &mut [u8]) -> Output
+pub fn merged_last(
+    store: &[u8],
+    lengths: [u32; 64],
+    n: usize,
+    d: usize,
+    out: &mut [u8],
+) -> Option<Counts>
     requires { Stored store.now lengths n × (d ≤ n) }
     ensures { (result ≡ output_of Delta (last_merged store.now lengths n d) (length out.old)) × (out.new ≡ whole_out Delta (last_merged store.now lengths n d) out.old) }
 {
     let places = place_all(lengths, n);
     let most = sum_lengths(lengths, n - d, n);
-    put_whole(store, places, n - d, n, most, out)
+    let mut walk = Walk::new(store, places.at, places.ends, n - d, n);
+    put_whole(&mut walk, most, out)
 }

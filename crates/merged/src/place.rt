@@ -1,8 +1,6 @@
 // Where the held deltas lie in the delta store.
 ghost use Rattle.merged.specs.Place.{Summed, Placed};
 
-use crate::lengths::wide;
-
 // Where each delta starts and ends.
 #[derive(Clone, Copy)]
 pub struct Places {
@@ -15,15 +13,13 @@ pub fn place_all(lengths: [u32; 64], n: usize) -> Places
     requires { Summed lengths n }
     ensures { Placed lengths n result }
 {
-    let mut at = [0usize; 64];
-    let mut ends = [0usize; 64];
+    let mut at = [0; 64];
+    let mut ends = [0; 64];
     let mut sum = 0;
-    let mut i = 0;
-    while i < n {
+    for i in 0..n {
         at[i] = sum;
-        sum += wide(lengths[i]);
+        sum += lengths[i] as usize;
         ends[i] = sum;
-        i += 1;
     }
     Places { at, ends }
 }

@@ -1,4 +1,3 @@
-pub mod Versions
 pub mod Examples
 pub mod Taking
 pub mod Spoken

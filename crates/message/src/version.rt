@@ -9,6 +9,7 @@ pub enum Version {
 }
 
 // The byte that each message starts with.
+// Kept: a name that the specs share.
 pub fn number_of(version: Version) -> u8
     ensures { result ≡ version_number version }
 {

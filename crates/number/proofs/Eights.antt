@@ -8,10 +8,12 @@ use mir.Syntax.{w8}
 use mir.Val.{Fits}
 use lib.ListN.{length, get_or, take, drop, length-take, length-drop, get_or-eq_default}
 use lib.Seq.{drop-cons, get_or-take, get_or-drop, take_all}
-use Rattle.order.specs.declared.Ordering.{Ordering}
-use Rattle.order.specs.declared.Ordering.TheVariants.{Less, Greater}
+use Rattle.std.specs.declared.cmp.Ordering.{Ordering}
+use Rattle.std.specs.declared.cmp.Ordering.TheVariants.{Less, Greater}
 use Rattle.order.specs.Comparison.{or_else, number, bytes}
-use Rattle.order.proofs.Comparison.{number_less, number_equal, number_greater}
+use Rattle.order.proofs.Comparison.{number_less, number_equal, number_greater, lex_std}
+use Rattle.std.specs.Ordering.{nat_cmp}
+use Rattle.std.specs.Cmp.Lexicographic.{slice_cmp}
 use Rattle.number.specs.Number.{two_at, four_at, word_at}
 use Rattle.number.specs.Bytes.{part}
 
@@ -109,8 +111,8 @@ module _ (a b : List ℕ) (n i : ℕ) (l : Worded a b n i) where
   pub worded_right : 8 ≤ n - i → i + 8 ≤ length b
   worded_right h = omega (arith, l.both)
 
-  pub worded_end : (r : Ordering) → r ≡ bytes (part a i (length a)) (part b i (length b)) → r ≡ bytes a b
-  worded_end r e = e ∙ rw (to_end a, to_end b) l.rest
+  pub worded_end : (r : Ordering) → r ≡ slice_cmp nat_cmp (part a i (length a)) (part b i (length b)) → r ≡ bytes a b
+  worded_end r e = e ∙ lex_std number (part a i (length a)) (part b i (length b)) ∙ rw (to_end a, to_end b) l.rest
     where
       to_end : (s : List ℕ) → take (length s - i) (drop i s) ≡ drop i s
       to_end s = take_all (length s - i) (drop i s) (simp length-drop (omega arith))

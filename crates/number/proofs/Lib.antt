@@ -1,4 +1,3 @@
-pub mod Comparing
 pub mod Numbers
 pub mod Eights
 pub mod Values

@@ -1,32 +1,13 @@
 -- Numbers of several bytes.
-use Prim.Native.Nat.{ℕ, suc, ◌+◌, ◌-◌, ◌*◌, ◌/◌, ◌%◌, ◌<◌, ◌≤◌}
+use Prim.Native.Nat.{ℕ, suc, ◌+◌, ◌*◌, ◌/◌, ◌%◌, ◌<◌, ◌≤◌}
 use mathlib.Core.Path.{◌≡◌, sym, ap₂, ◌∙◌}
 use mathlib.Core.List.{List, [], ◌∷◌, ◌++◌}
 use native.Mathlib.Omega.{arith}
 use mir.Syntax.{w8}
 use mir.Val.{Fits}
-use lib.ListN.{length, get_or, take, drop, get_or-eq_default}
+use lib.ListN.{length, get_or, take, drop}
 use lib.Seq.{drop-cons, drop-drop, take-add}
-use Rattle.serial.specs.declared.Asn.{Asn}
-use Rattle.number.specs.Number.{two, two_at, four, four_at, word_at, asn_at, two_bytes, four_bytes, word_bytes}
-
--- two bytes that were read one by one
-pub two_read : (s : List ℕ) (i a b : ℕ) → a ≡ get_or s i 0 → b ≡ get_or s (i + 1) 0 → two a b ≡ two_at s i
-two_read s i a b p q = cc
-
--- none of them is there
-pub two_none : (s : List ℕ) (i : ℕ) → length s ≤ i → 0 ≡ two_at s i
-two_none s i h = rw (get_or-eq_default s 0 h, get_or-eq_default s 0 {n = i + 1} (omega arith))
-
--- only the higher is there
-pub two_half : (s : List ℕ) (i a : ℕ) → a ≡ get_or s i 0 → length s - i < 2 → a * 256 ≡ two_at s i
-two_half s i a p h = rw (get_or-eq_default s 0 {n = i + 1} (omega arith)) (omega (arith, p))
-
--- four of them
-pub asn_read : (s : List ℕ) (i n : ℕ) → n ≡ four_at s i → ◌≡◌ {A = Asn} (record { 0 = n }) (asn_at s i)
-asn_read s i n e = λ j. record { 0 = e j }
-
-pub ruleset reading = (two_read, two_none, two_half, asn_read)
+use Rattle.number.specs.Number.{four, four_at, word_at, two_bytes, four_bytes, word_bytes}
 
 -- ---- the bytes of a number
 

@@ -1,29 +1,20 @@
 // Numbers of several bytes: big-endian.
 #![tactic(auto)]
 
-ghost use Rattle.std.specs.Prelude.{◌≡◌, ◌+◌, ◌≤◌, ◌<◌, min, length};
-ghost use Rattle.order.specs.Comparison.{number};
+ghost use Rattle.std.specs.Prelude.{◌≡◌, ◌+◌, ◌≤◌, ◌<◌, length};
 ghost use Rattle.number.specs.Number.{two_at, four_at, word_at, asn_at};
 
-use order::Ordering;
 use serial::Asn;
 
 pub mod compare;
-
-// A byte as a wider number.
-pub fn wide(x: u8) -> usize
-    ensures { (result ≡ x) × (result < 256) }
-{
-    x as usize
-}
 
 // The two bytes at i as a number.
 pub fn pair_at(s: &[u8], i: usize) -> usize
     requires { i + 2 ≤ length s.now }
     ensures { (result ≡ two_at s.now i) × (result < 65536) }
 {
-    let high = wide(s[i]);
-    let low = wide(s[i + 1]);
+    let high = usize::from(s[i]);
+    let low = usize::from(s[i + 1]);
     high * 256 + low
 }
 
@@ -35,19 +26,9 @@ pub fn two_at(s: &[u8], i: usize) -> usize
         return 0;
     }
     if s.len() - i < 2 {
-        return wide(s[i]) * 256;
+        return usize::from(s[i]) * 256;
     }
     pair_at(s, i)
-}
-
-// The lower of two numbers.
-pub fn lower(x: usize, y: usize) -> usize
-    ensures { result ≡ min x y }
-{
-    if x < y {
-        return x;
-    }
-    y
 }
 
 // The four bytes at i as a number.
@@ -55,7 +36,10 @@ pub fn four_at(s: &[u8], i: usize) -> usize
     requires { i + 4 ≤ length s.now }
     ensures { (result ≡ four_at s.now i) × (result < 4294967296) }
 {
-    wide(s[i]) * 16777216 + wide(s[i + 1]) * 65536 + wide(s[i + 2]) * 256 + wide(s[i + 3])
+    usize::from(s[i]) * 16777216
+        + usize::from(s[i + 1]) * 65536
+        + usize::from(s[i + 2]) * 256
+        + usize::from(s[i + 3])
 }
 
 // The eight bytes at i as a number. Made of two fours it is compiled to one load.
@@ -73,17 +57,4 @@ pub fn asn_at(s: &[u8], i: usize) -> Asn
 {
     let n = four_at(s, i);
     Asn(n as u32)
-}
-
-// How one AS number stands to another.
-pub fn asn_compare(a: Asn, b: Asn) -> Ordering
-    ensures { result ≡ number a.0 b.0 }
-{
-    if a.0 < b.0 {
-        return Ordering::Less;
-    }
-    if b.0 < a.0 {
-        return Ordering::Greater;
-    }
-    Ordering::Equal
 }

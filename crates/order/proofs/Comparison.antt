@@ -1,13 +1,13 @@
 -- Numbers, lists and byte strings are totally ordered.
 use mathlib.Core.Path.{◌≡◌, refl, ap, ◌∙◌}
 use mathlib.Core.List.{List, [], ◌∷◌}
-use mathlib.Core.Bool.{Bool, true, false, cond}
 use Prim.Native.Nat.{ℕ, ◌<◌}
 use native.Mathlib.Omega.{arith}
-use lib.Dec.{ltb}
-use borrow.Author.Tests.{ltb-true, ltb-false, lt-ltb, le-ltb}
-use Rattle.order.specs.declared.Ordering.{Ordering}
-use Rattle.order.specs.declared.Ordering.TheVariants.{Less, Equal, Greater}
+use Rattle.std.proofs.lemmas.Cmp.{ranked, by_ranked, nat_cmp_total}
+use Rattle.std.specs.Cmp.Lexicographic.{slice_cmp}
+use Rattle.std.proofs.lemmas.Bool.Decides.{nat_tests}
+use Rattle.std.specs.declared.cmp.Ordering.{Ordering}
+use Rattle.std.specs.declared.cmp.Ordering.TheVariants.{Less, Equal, Greater}
 use Rattle.order.specs.Comparison.{flip, or_else, number, lex, bytes, TotalOrder}
 use Rattle.order.proofs.Never.{never}
 
@@ -24,38 +24,22 @@ equal≢greater p q = never cc
 -- the three answers of two numbers, by the order that omega knows
 module _ (m n : ℕ) where
   pub number_less : m < n → number m n ≡ Less
-  number_less h = rw (lt-ltb m n h)
+  number_less h = grind (arith, nat_tests)
 
   pub number_equal : m ≡ n → number m n ≡ Equal
-  number_equal h = rw (le-ltb m n (omega arith), le-ltb n m (omega arith))
+  number_equal h = grind (arith, nat_tests)
 
   pub number_greater : n < m → number m n ≡ Greater
-  number_greater h = rw (le-ltb m n (omega arith), lt-ltb n m h)
+  number_greater h = grind (arith, nat_tests)
 
   pub less_number : number m n ≡ Less → m < n
-  less_number = go (ltb m n) refl (ltb n m)
-    where
-      go : (s : Bool) → ltb m n ≡ s → (t : Bool) → cond s Less (cond t Greater Equal) ≡ Less → m < n
-      go true e t h = ltb-true m n e
-      go false e true h = less≢greater h refl
-      go false e false h = less≢equal h refl
+  less_number h = by_ranked _ _ _ (number m n) (ranked m n (number m n) refl) (λ e p. p) (λ e p. less≢equal h e) (λ e p. less≢greater h e)
 
   pub equal_number : number m n ≡ Equal → m ≡ n
-  equal_number = go (ltb m n) refl (ltb n m) refl
-    where
-      go : (s : Bool) → ltb m n ≡ s → (t : Bool) → ltb n m ≡ t → cond s Less (cond t Greater Equal) ≡ Equal → m ≡ n
-      go true e t d h = cc
-      go false e true d h = cc
-      go false e false d h = omega (arith, ltb-false m n e, ltb-false n m d)
+  equal_number h = by_ranked _ _ _ (number m n) (ranked m n (number m n) refl) (λ e p. less≢equal e h) (λ e p. p) (λ e p. equal≢greater h e)
 
 number_turn : (m n : ℕ) → number n m ≡ flip (number m n)
-number_turn m n = go (ltb m n) refl (ltb n m) refl
-  where
-    go : (s : Bool) → ltb m n ≡ s → (t : Bool) → ltb n m ≡ t → cond t Less (cond s Greater Equal) ≡ flip (cond s Less (cond t Greater Equal))
-    go true e true d = absurd (omega (arith, ltb-true m n e, ltb-true n m d))
-    go true e false d = refl
-    go false e true d = refl
-    go false e false d = refl
+number_turn m n = nat_cmp_total.antisymm n m
 
 pub numbers : TotalOrder number
 numbers = record {
@@ -115,6 +99,13 @@ module _ {A : Type 0} {cmp : A → A → Ordering} (O : TotalOrder cmp) where
   -- lists over a totally ordered type are totally ordered
   pub lists : TotalOrder (lex cmp)
   lists = record { self = lex_self; same = lex_same; turn = lex_turn; trans = lex_trans }
+
+-- std's order of slices is this one
+pub lex_std : {A : Type 0} (cmp : A → A → Ordering) (a b : List A) → slice_cmp cmp a b ≡ lex cmp a b
+lex_std cmp [] [] = refl
+lex_std cmp [] (y ∷ b) = refl
+lex_std cmp (x ∷ a) [] = refl
+lex_std cmp (x ∷ a) (y ∷ b) = ap (λ r. or_else (cmp x y) r) (lex_std cmp a b)
 
 -- byte strings are totally ordered
 pub strings : TotalOrder bytes

@@ -1,29 +1,24 @@
 -- Comparison: of numbers, of lists, and what makes a comparison a total order.
-use Rattle.std.specs.Prelude.{◌≡◌, List, [], ◌∷◌, Bool, true, false, cond, ℕ, ltb}
-use Rattle.order.specs.declared.Ordering.{Ordering}
-use Rattle.order.specs.declared.Ordering.TheVariants.{Less, Equal, Greater}
+use Rattle.std.specs.Prelude.{◌≡◌, List, [], ◌∷◌, Bool, ℕ}
+use Rattle.std.specs.Ordering.{ordering_reverse, ordering_then, is_lt, nat_cmp}
+use Rattle.std.specs.declared.cmp.Ordering.{Ordering}
+use Rattle.std.specs.declared.cmp.Ordering.TheVariants.{Less, Equal, Greater}
 
 -- the answer with the two sides exchanged
 abbrev pub flip : Ordering → Ordering
-flip Less = Greater
-flip Equal = Equal
-flip Greater = Less
+flip = ordering_reverse
 
 -- the first stands below the second
 abbrev pub is_less : Ordering → Bool
-is_less Less = true
-is_less Equal = false
-is_less Greater = false
+is_less = is_lt
 
 -- the first comparison decides, or else the second
 abbrev pub or_else : Ordering → Ordering → Ordering
-or_else Less o = Less
-or_else Equal o = o
-or_else Greater o = Greater
+or_else = ordering_then
 
 -- two numbers
 abbrev pub number : ℕ → ℕ → Ordering
-number m n = cond (ltb m n) Less (cond (ltb n m) Greater Equal)
+number = nat_cmp
 
 -- two lists: element by element, a proper prefix first
 abbrev pub lex : {A : Type 0} → (A → A → Ordering) → List A → List A → Ordering

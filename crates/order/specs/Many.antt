@@ -1,8 +1,8 @@
 -- The walk over many lists at once, always at the least of their first keys.
 use mathlib.Core.List.{List, [], ◌∷◌, foldl}
 use Rattle.std.proofs.Math.Option.{Option, none, some}
-use Rattle.order.specs.declared.Ordering.{Ordering}
-use Rattle.order.specs.declared.Ordering.TheVariants.{Less, Equal, Greater}
+use Rattle.std.specs.declared.cmp.Ordering.{Ordering}
+use Rattle.std.specs.declared.cmp.Ordering.TheVariants.{Less, Equal, Greater}
 use Rattle.order.specs.Map.{Item, own}
 use Rattle.order.specs.Walk.{walk}
 

@@ -1,8 +1,8 @@
 -- One walk over two ascending lists: f says what becomes of a key from what each side has there.
 use Rattle.std.specs.Prelude.{List, [], ◌∷◌}
 use Rattle.std.proofs.Math.Option.{Option, none, some}
-use Rattle.order.specs.declared.Ordering.{Ordering}
-use Rattle.order.specs.declared.Ordering.TheVariants.{Less, Equal, Greater}
+use Rattle.std.specs.declared.cmp.Ordering.{Ordering}
+use Rattle.std.specs.declared.cmp.Ordering.TheVariants.{Less, Equal, Greater}
 use Rattle.order.specs.Map.{Item}
 
 -- what a key yields goes in front, if it yields anything

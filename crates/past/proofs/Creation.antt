@@ -16,8 +16,6 @@ use Rattle.body.proofs.Sizes.{both}
 use Rattle.payload.specs.Content.{Bytes}
 use Rattle.payload.specs.Limit.{limit}
 use Rattle.delta.specs.declared.refusal.Refusal.TheVariants.{BadKeep, TooLong}
-use Rattle.delta.specs.declared.admit.Admitted.{Admitted}
-use Rattle.delta.specs.declared.admit.Admitted.TheVariants.{Yes, No}
 use Rattle.delta.specs.Refusal.{Values}
 use Rattle.delta.specs.Admission.{and_then}
 use Rattle.past.specs.WellFormed.{good_keep}
@@ -25,6 +23,8 @@ use Rattle.past.specs.Create.{create_at, create_of}
 use Rattle.past.specs.Run.{refusal}
 use Rattle.past.specs.Promise.{refused_creation, Creates}
 use Rattle.past.proofs.Numbers.{number_of_lem, argument_of_lem}
+use Rattle.delta.specs.Admission.{Admitted}
+use Rattle.std.specs.Prelude.{Err, Ok}
 
 -- the refusal by the outcome of the three tests: keep, the first store, the second
 abbrev refusal_by : Bool → Bool → Bool → Option Values
@@ -63,7 +63,7 @@ module _ (session keep : ℕ) (start : Serial) (snapshots deltas : Bytes) where
   answer_by_lem = go (good_keep keep) fits holds
     where
       admitted : Bool → Bool → Bool → Admitted
-      admitted t u v = and_then (cond t Yes (No BadKeep)) (and_then (cond u Yes (No (TooLong 1))) (cond v Yes (No (TooLong 2))))
+      admitted t u v = and_then (cond t (Ok tt) (Err BadKeep)) (and_then (cond u (Ok tt) (Err (TooLong 1))) (cond v (Ok tt) (Err (TooLong 2))))
 
       go : (t u v : Bool) → refused_creation (create_at (admitted t u v) session keep start).answer ≡ refusal_by t u v
       go true true true = refl

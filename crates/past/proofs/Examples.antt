@@ -17,9 +17,7 @@ use Rattle.payload.specs.Payload.{entries, encode}
 use Rattle.delta.specs.declared.refusal.Refusal.TheVariants.{BadKeep, StoreFull, Bad, Senseless, OtherSession, NotServed}
 use Rattle.delta.specs.Answer.{difference_of, counts_of}
 use Rattle.past.specs.declared.state.History.{History}
-use Rattle.past.specs.declared.create.Creation.TheVariants as creation
 use Rattle.past.specs.declared.query.Queried.{Queried}
-use Rattle.past.specs.declared.update.Update.TheVariants.{First, Unchanged, Changed, Refused}
 use Rattle.past.specs.Store.{lengths_of}
 use Rattle.past.specs.WellFormed.{well_formed}
 use Rattle.past.specs.Create.{fresh_of, create_of}
@@ -27,6 +25,8 @@ use Rattle.past.specs.Update.{step_for, update_of, update_snapshots, update_delt
 use Rattle.past.specs.Query.{merged_last, refused_with, served_with, query_of}
 use Rattle.past.specs.Run.{World, Call, update, updated, reply_of, Reached, start_of, run_of}
 use Rattle.past.specs.Marked.{p, q, customer, in_snapshot, delta1, delta2, delta3}
+use Rattle.std.specs.Prelude.{Err, Ok}
+use Rattle.past.specs.declared.update.Update.TheVariants as outcome
 
 -- a history as it stands with these deltas
 abbrev state : ℕ → ℕ → ℕ → ℕ → List Bytes → History
@@ -83,7 +83,7 @@ pub record Examples : Type 0 where
       }
   -- deltas of 11 and 17 bytes fit into a store of 28; with one byte less the second is refused
   just_room : (runs 2 28 ([] ∷ in_snapshot p ∷ in_snapshot q ∷ [])).world ≡ world (state 2 2 0 11 (delta1 ∷ delta2 ∷ [])) (in_snapshot q ++ (9 ∷ [])) (delta1 ++ delta2)
-  store_full : reply_of (runs 2 27 ([] ∷ in_snapshot p ∷ [])).world (update (in_snapshot q)) ≡ updated (Refused StoreFull)
+  store_full : reply_of (runs 2 27 ([] ∷ in_snapshot p ∷ [])).world (update (in_snapshot q)) ≡ updated (Err StoreFull)
   -- the room of a dropped delta is used again: with keep 1 a store of 17 is enough
   room_again : (runs 1 17 ([] ∷ in_snapshot p ∷ in_snapshot q ∷ [])).world ≡ world (state 1 2 0 11 (delta2 ∷ [])) (in_snapshot q ++ (9 ∷ [])) delta2
   -- the answers: first, changed with the delta's counts, unchanged, refused for the first bad field
@@ -91,11 +91,11 @@ pub record Examples : Type 0 where
   first_there : (runs_from 2 4_294_967_295 32 ([] ∷ [])).world ≡ world (state 2 4_294_967_295 4_294_967_295 0 []) (replicate 12 9) (replicate 32 8)
   over_wrap : (runs_from 2 4_294_967_295 32 ([] ∷ in_snapshot p ∷ [])).world
       ≡ world (state 2 0 4_294_967_295 11 (delta1 ∷ [])) (in_snapshot p ++ (9 ∷ [])) (delta1 ++ replicate 21 8)
-  first_answer : reply_of (runs 2 32 []).world (update []) ≡ updated First
-  changed_answer : reply_of (runs 2 32 ([] ∷ [])).world (update (in_snapshot p)) ≡ updated (Changed (counts_of delta1))
-  unchanged_answer : reply_of (runs 2 32 (in_snapshot p ∷ [])).world (update (in_snapshot p)) ≡ updated Unchanged
-  bad_answer : reply_of (runs 2 32 (in_snapshot p ∷ [])).world (update (3 ∷ [])) ≡ updated (Refused (Bad 1 0))
-  senseless_answer : reply_of (runs 2 32 (in_snapshot p ∷ [])).world (update (in_snapshot customer)) ≡ updated (Refused (Senseless 1 0))
+  first_answer : reply_of (runs 2 32 []).world (update []) ≡ updated (Ok outcome.First)
+  changed_answer : reply_of (runs 2 32 ([] ∷ [])).world (update (in_snapshot p)) ≡ updated (Ok (outcome.Changed (counts_of delta1)))
+  unchanged_answer : reply_of (runs 2 32 (in_snapshot p ∷ [])).world (update (in_snapshot p)) ≡ updated (Ok outcome.Unchanged)
+  bad_answer : reply_of (runs 2 32 (in_snapshot p ∷ [])).world (update (3 ∷ [])) ≡ updated (Err (Bad 1 0))
+  senseless_answer : reply_of (runs 2 32 (in_snapshot p ∷ [])).world (update (in_snapshot customer)) ≡ updated (Err (Senseless 1 0))
   -- while inactive, serial 0 gets the empty delta; a session of other low bits is refused
   inactive_query : query_of (fresh_of 65_543 2 (record { 0 = 0 })) (record { 0 = 7 }) (record { 0 = 0 }) [] [] 0 ≡ served_with (fresh_of 65_543 2 (record { 0 = 0 })) []
   -- from another start serial that one does, and 0 is refused
@@ -103,9 +103,9 @@ pub record Examples : Type 0 where
   zero_query : waiting 9 0 ≡ refused_with NotServed
   other_session : query_of (fresh_of 65_543 2 (record { 0 = 0 })) (record { 0 = 8 }) (record { 0 = 0 }) [] [] 0 ≡ refused_with OtherSession
   -- keep 0 and 65 are refused at creation, with a history of zeros
-  keep_low : create_of 5 0 (record { 0 = 3 }) [] [] ≡ record { answer = creation.Refused BadKeep; history = fresh_of 0 0 (record { 0 = 0 }) }
-  keep_high : create_of 5 65 (record { 0 = 3 }) [] [] ≡ record { answer = creation.Refused BadKeep; history = fresh_of 0 0 (record { 0 = 0 }) }
-  keep_most : create_of 5 64 (record { 0 = 3 }) [] [] ≡ record { answer = creation.Done; history = fresh_of 5 64 (record { 0 = 3 }) }
+  keep_low : create_of 5 0 (record { 0 = 3 }) [] [] ≡ record { answer = Err BadKeep; history = fresh_of 0 0 (record { 0 = 0 }) }
+  keep_high : create_of 5 65 (record { 0 = 3 }) [] [] ≡ record { answer = Err BadKeep; history = fresh_of 0 0 (record { 0 = 0 }) }
+  keep_most : create_of 5 64 (record { 0 = 3 }) [] [] ≡ record { answer = Ok tt; history = fresh_of 5 64 (record { 0 = 3 }) }
   -- not well formed: keep out of range, n above keep
   keep_none : well_formed (any 0 true 0 0 0 []) [] [] ≡ false
   keep_many : well_formed (any 65 true 0 0 0 []) [] [] ≡ false

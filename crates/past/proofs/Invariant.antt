@@ -20,7 +20,6 @@ use Rattle.change.proofs.History.{diffs_length, held_push, last_n_push}
 use Rattle.serial.specs.declared.Serial.{Serial}
 use Rattle.number.specs.Bytes.{AllBytes}
 use Rattle.body.specs.declared.tag.Form.TheVariants.{Snapshot, Delta}
-use Rattle.field.specs.declared.verdict.Verdict.TheVariants.{Fine}
 use Rattle.field.specs.Head.{front}
 use Rattle.field.specs.Verdict.{judge, verdict_f, verdict}
 use Rattle.payload.specs.Content.{Bytes}
@@ -38,6 +37,7 @@ use Rattle.past.proofs.Store.{joined_length, store_length, next_lengths, next_de
 use Rattle.delta.specs.Demand.{GoodSnapshot}
 use Rattle.delta.proofs.Differences.{difference_fine, difference_says}
 use Rattle.past.proofs.Steps.{Adds, Begins, step_add, step_first}
+use Rattle.std.specs.Prelude.{Ok}
 
 -- what no call changes: the session, keep and start serial of the creation, and stores within their limits
 pub record Frame (session keep : ℕ) (start : Serial) (w : World) : Type 0 where
@@ -59,7 +59,7 @@ pub record Waits (session keep : ℕ) (start : Serial) (w : World) : Type 0 wher
   pub snapshot : w.history.snapshot ≡ 0
 
 abbrev pub FineDelta : Bytes → Type 0
-FineDelta d = verdict Delta d ≡ Fine
+FineDelta d = verdict Delta d ≡ Ok tt
 
 -- after the first snapshot S and the changed ones Ts: the newest is held, F is the start serial plus the count of changes, modulo 2^32,
 -- and the held deltas are good, are the last differences, as many as are kept, and say them

@@ -6,11 +6,11 @@ use Rattle.order.proofs.Map.{none≢some}
 use Rattle.delta.specs.declared.refusal.Refusal.{Refusal}
 use Rattle.delta.specs.Refusal.{Values, values_of}
 use Rattle.delta.proofs.Numbers.{same_refusal}
-use Rattle.past.specs.declared.update.Update.{Update}
-use Rattle.past.specs.declared.update.Update.TheVariants as updates
-use Rattle.past.specs.declared.query.Answer.{Answer}
-use Rattle.past.specs.declared.query.Answer.TheVariants as answers
 use Rattle.past.specs.Run.{refused_update, refused_answer, numbered}
+use Rattle.item.specs.declared.sink.Counts.{Counts}
+use Rattle.std.specs.Prelude.{Err, Ok, Result}
+use Rattle.past.specs.declared.update.Update.TheVariants as outcome
+use Rattle.past.specs.declared.update.Update.{Update}
 
 -- one after the other
 pub through : {A B C : Type 0} → (A ↔ B) → (B ↔ C) → (A ↔ C)
@@ -30,18 +30,18 @@ number_of_lem {x} {y} e = let q : x ≡ y = cc in ap (λ (v : Values). v.number)
 pub argument_of_lem : {x y : Values} → some x ≡ some y → x.argument ≡ y.argument
 argument_of_lem {x} {y} e = let q : x ≡ y = cc in ap (λ (v : Values). v.argument) q
 
-pub update_refused : (a : Update) (q : Refusal) → numbered (refused_update a) ≡ some (values_of q) ↔ a ≡ updates.Refused q
-update_refused a q = (λ e. go a ((refusal_is (refused_update a) q).0 e), λ e. ap (λ (x : Update). numbered (refused_update x)) e)
+pub update_refused : (a : Result Update Refusal) (q : Refusal) → numbered (refused_update a) ≡ some (values_of q) ↔ a ≡ Err q
+update_refused a q = (λ e. go a ((refusal_is (refused_update a) q).0 e), λ e. ap (λ (x : Result Update Refusal). numbered (refused_update x)) e)
   where
-    go : (a : Update) → refused_update a ≡ some q → a ≡ updates.Refused q
-    go updates.First e = none≢some refl e
-    go updates.Unchanged e = none≢some refl e
-    go (updates.Changed c) e = none≢some refl e
-    go (updates.Refused r) e = cc
+    go : (a : Result Update Refusal) → refused_update a ≡ some q → a ≡ Err q
+    go (Ok outcome.First) e = none≢some refl e
+    go (Ok outcome.Unchanged) e = none≢some refl e
+    go (Ok (outcome.Changed c)) e = none≢some refl e
+    go (Err r) e = cc
 
-pub answer_refused : (a : Answer) (q : Refusal) → numbered (refused_answer a) ≡ some (values_of q) ↔ a ≡ answers.Refused q
-answer_refused a q = (λ e. go a ((refusal_is (refused_answer a) q).0 e), λ e. ap (λ (x : Answer). numbered (refused_answer x)) e)
+pub answer_refused : (a : Result Counts Refusal) (q : Refusal) → numbered (refused_answer a) ≡ some (values_of q) ↔ a ≡ Err q
+answer_refused a q = (λ e. go a ((refusal_is (refused_answer a) q).0 e), λ e. ap (λ (x : Result Counts Refusal). numbered (refused_answer x)) e)
   where
-    go : (a : Answer) → refused_answer a ≡ some q → a ≡ answers.Refused q
-    go (answers.Refused r) e = cc
-    go (answers.Served c) e = none≢some refl e
+    go : (a : Result Counts Refusal) → refused_answer a ≡ some q → a ≡ Err q
+    go (Err r) e = cc
+    go (Ok c) e = none≢some refl e

@@ -23,7 +23,6 @@ use Rattle.change.proofs.Chain.{all_newest, all_nth}
 use Rattle.change.proofs.History.{answer}
 use Rattle.serial.specs.declared.Serial.{Serial}
 use Rattle.serial.specs.declared.Session.{Session}
-use Rattle.serial.specs.declared.order.Standing.TheVariants.{Equal, Before, Unordered}
 use Rattle.serial.specs.Serial.{distance_of, session_of}
 use Rattle.serial.specs.Rfc1982.{standing}
 use Rattle.serial.proofs.Steps.{same_serial}
@@ -36,16 +35,10 @@ use Rattle.body.proofs.Sizes.{both}
 use Rattle.delta.specs.declared.refusal.Refusal.{Refusal}
 use Rattle.delta.specs.declared.refusal.Refusal.TheVariants.{NoRoom, OtherSession, NotServed, IllFormed, BadKeep, TooLong}
 use Rattle.delta.specs.Refusal.{Values}
-use Rattle.delta.specs.declared.admit.Admitted.{Admitted}
-use Rattle.delta.specs.declared.admit.Admitted.TheVariants.{Yes, No}
 use Rattle.item.specs.declared.sink.Counts.{Counts}
 use Rattle.delta.specs.Admission.{and_then}
 use Rattle.delta.specs.Answer.{difference_of, counts_of}
-use Rattle.past.specs.declared.create.Creation.TheVariants.{Done, Refused}
-use Rattle.past.specs.declared.query.Answer.{Answer}
-use Rattle.past.specs.declared.query.Answer.TheVariants as answers
 use Rattle.past.specs.declared.query.Queried.{Queried}
-use Rattle.past.specs.declared.full.FullAnswer.TheVariants.{Held}
 use Rattle.past.specs.Store.{held_deltas}
 use Rattle.past.specs.WellFormed.{good_keep, well_formed}
 use Rattle.past.specs.Create.{create_at, create_of}
@@ -65,6 +58,9 @@ use Rattle.past.proofs.Numbers.{through, update_refused, answer_refused}
 use Rattle.past.proofs.Updates.{inv_updates}
 use Rattle.past.proofs.Ordered.{rule_before, rule_unordered}
 use Rattle.past.proofs.Queries as queries
+use Rattle.delta.specs.Admission.{Admitted}
+use Rattle.std.specs.Prelude.{Err, Ok, Result, None, Some}
+use Rattle.std.specs.declared.cmp.Ordering.TheVariants as ordering
 
 -- ---- refused calls, of any world
 
@@ -85,10 +81,10 @@ refused_stays w (update new) x e = (go (step_for w.history new w.snapshots w.del
     go (add d) e = none≢some refl e
 refused_stays w (query session asked out) x e = (refl, go (queried_in w session asked (length out)).answer refl e)
   where
-    go : (a : Answer) → (queried_in w session asked (length out)).answer ≡ a → numbered (refused_answer a) ≡ some x →
+    go : (a : Result Counts Refusal) → (queried_in w session asked (length out)).answer ≡ a → numbered (refused_answer a) ≡ some x →
         query_out w.history session asked w.snapshots w.deltas out ≡ out
-    go (answers.Refused r) p e = queries.out_refused w.history session asked w.snapshots w.deltas out r p
-    go (answers.Served c) p e = none≢some refl e
+    go (Err r) p e = queries.out_refused w.history session asked w.snapshots w.deltas out r p
+    go (Ok c) p e = none≢some refl e
 refused_stays w full x e = (refl, refl)
 refused_stays w notify x e = (refl, refl)
 refused_stays w ready x e = (refl, refl)
@@ -168,25 +164,25 @@ queried_path : {a b : Queried} {x y : Bytes} → a ≡ b → x ≡ y → queried
 queried_path p q = λ i. queried (p i) (q i)
 
 served_path : {a b : Session} {f g : Serial} {d e : Bytes} → a ≡ b → f ≡ g → d ≡ e →
-    ◌≡◌ {A = Queried} (record { session = a; serial = f; answer = answers.Served (counts_of d) }) (record { session = b; serial = g; answer = answers.Served (counts_of e) })
-served_path p q r = λ i. record { session = p i; serial = q i; answer = answers.Served (counts_of (r i)) }
+    ◌≡◌ {A = Queried} (record { session = a; serial = f; answer = Ok (counts_of d) }) (record { session = b; serial = g; answer = Ok (counts_of e) })
+served_path p q r = λ i. record { session = p i; serial = q i; answer = Ok (counts_of (r i)) }
 
 -- ---- every run
 
 -- a creation that is done leaves a fresh history
-start_inv : (session keep : ℕ) (start : Serial) (snapshots deltas : Bytes) → start.0 < 2 ^ 32 → (create_of session keep start snapshots deltas).answer ≡ Done →
+start_inv : (session keep : ℕ) (start : Serial) (snapshots deltas : Bytes) → start.0 < 2 ^ 32 → (create_of session keep start snapshots deltas).answer ≡ Ok tt →
     Inv session keep start (start_of session keep start snapshots deltas).world []
 unfolding create_of
 start_inv session keep start snapshots deltas bound = go (good_keep keep) refl (leb (length snapshots) (limit Snapshot)) refl (leb (length deltas) (limit Delta)) refl
   where
     admitted : Bool → Bool → Bool → Admitted
-    admitted t u v = and_then (cond t Yes (No BadKeep)) (and_then (cond u Yes (No (TooLong 1))) (cond v Yes (No (TooLong 2))))
+    admitted t u v = and_then (cond t (Ok tt) (Err BadKeep)) (and_then (cond u (Ok tt) (Err (TooLong 1))) (cond v (Ok tt) (Err (TooLong 2))))
 
-    refusal : {X : Type 0} {r : Refusal} → Refused r ≡ Done → X
+    refusal : {X : Type 0} {r : Refusal} → ◌≡◌ {A = Admitted} (Err r) (Ok tt) → X
     refusal e = never cc
 
     go : (t : Bool) → good_keep keep ≡ t → (u : Bool) → leb (length snapshots) (limit Snapshot) ≡ u → (v : Bool) → leb (length deltas) (limit Delta) ≡ v →
-        (create_at (admitted t u v) session keep start).answer ≡ Done →
+        (create_at (admitted t u v) session keep start).answer ≡ Ok tt →
         Waits session keep start (record { history = (create_at (admitted t u v) session keep start).history; snapshots = snapshots; deltas = deltas })
     go true p true q true r e =
         let k = both (leb 1 keep) (leb keep 64) p in
@@ -315,7 +311,7 @@ module _ (session keep : ℕ) (start : Serial) (w : World) where
     inv_serves : (s : Session) (asked : Serial) (out : Bytes) → asked.0 < 2 ^ 32 → s.0 ≡ (session_of session).0 → InRule keep start given asked →
         length (due w start given asked) ≤ length out →
         reply_of w (query s asked out)
-        ≡ queried (record { session = session_of session; serial = serial_in start given; answer = answers.Served (counts_of (due w start given asked)) }) (written_over (due w start given asked) out)
+        ≡ queried (record { session = session_of session; serial = serial_in start given; answer = Ok (counts_of (due w start given asked)) }) (written_over (due w start given asked) out)
     inv_serves s asked out l e r k =
         let v = (rule_of asked).1 r in
         let d = inv_due asked l v in
@@ -325,13 +321,13 @@ module _ (session keep : ℕ) (start : Serial) (w : World) where
         (queries.out_whole w.history s asked w.snapshots w.deltas out (counts_of (answer_of w.history asked w.deltas)) (ap (λ (a : Queried). a.answer) p)
         ∙ ap (λ (x : Bytes). written_over x out) d)
 
-    inv_ordered : (s : Session) (asked : Serial) (out : Bytes) (c : Counts) → asked.0 < 2 ^ 32 → (queried_in w s asked (length out)).answer ≡ answers.Served c →
-        (standing asked (serial_in start given) ≡ Equal) ⊎ (standing asked (serial_in start given) ≡ Before)
+    inv_ordered : (s : Session) (asked : Serial) (out : Bytes) (c : Counts) → asked.0 < 2 ^ 32 → (queried_in w s asked (length out)).answer ≡ Ok c →
+        (standing asked (serial_in start given) ≡ Some ordering.Equal) ⊎ (standing asked (serial_in start given) ≡ Some ordering.Less)
     inv_ordered s asked out c l e =
         let f = inv_frame given i in
         rule_before keep start given asked f.least f.most f.bound l ((rule_of asked).0 (queries.found_served w.history s asked w.snapshots w.deltas out c e))
 
-    inv_unordered : (s : Session) (asked : Serial) (out : Bytes) → asked.0 < 2 ^ 32 → s.0 ≡ (session_of session).0 → standing asked (serial_in start given) ≡ Unordered →
+    inv_unordered : (s : Session) (asked : Serial) (out : Bytes) → asked.0 < 2 ^ 32 → s.0 ≡ (session_of session).0 → standing asked (serial_in start given) ≡ None →
         refused_as (reply_of w (query s asked out)) ≡ refusal 6 0 0
     inv_unordered s asked out l e u =
         let f = inv_frame given i in
@@ -341,7 +337,7 @@ module _ (session keep : ℕ) (start : Serial) (w : World) where
     unfolding notify_of
     inv_notice = rw (← (inv_frame given i).of_session, ← inv_serial given i)
 
-    inv_names : (s : Session) (asked : Serial) (out : Bytes) (c : Counts) → (queried_in w s asked (length out)).answer ≡ answers.Served c →
+    inv_names : (s : Session) (asked : Serial) (out : Bytes) (c : Counts) → (queried_in w s asked (length out)).answer ≡ Ok c →
         ((queried_in w s asked (length out)).session ≡ session_of session) × ((queried_in w s asked (length out)).serial ≡ serial_in start given) × (c ≡ counts_of (written_in w s asked out c))
     inv_names s asked out c e =
         let q : queried_in w s asked (length out) ≡ served_with w.history (answer_of w.history asked w.deltas) = queries.answer_served w.history s asked w.snapshots w.deltas out c e in (
@@ -350,11 +346,11 @@ module _ (session keep : ℕ) (start : Serial) (w : World) where
           queries.counts_served w.history s asked w.snapshots w.deltas out c e ∙ ap counts_of (sym (queries.out_served w.history s asked w.snapshots w.deltas out c e)),
         )
 
-    inv_whole : reply_of w full ≡ fully (record { session = session_of session; serial = serial_in start given; answer = Held (length (current w)) })
+    inv_whole : reply_of w full ≡ fully (record { session = session_of session; serial = serial_in start given; answer = Ok (length (current w)) })
     unfolding full_of
     inv_whole = rw (formed, ← (inv_frame given i).of_session, ← inv_serial given i, inv_length given i)
 
-    inv_leads : (s : Session) (asked : Serial) (out : Bytes) (c : Counts) → asked.0 < 2 ^ 32 → ¬ (given ≡ []) → (queried_in w s asked (length out)).answer ≡ answers.Served c →
+    inv_leads : (s : Session) (asked : Serial) (out : Bytes) (c : Counts) → asked.0 < 2 ^ 32 → ¬ (given ≡ []) → (queried_in w s asked (length out)).answer ≡ Ok c →
         Leads start given (current w) asked (written_in w s asked out c)
     inv_leads s asked out c l n e =
         rw (queries.out_served w.history s asked w.snapshots w.deltas out c e)

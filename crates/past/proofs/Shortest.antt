@@ -8,13 +8,13 @@ use Rattle.payload.specs.Content.{Bytes}
 use Rattle.delta.specs.Demand.{GoodSnapshot}
 use Rattle.delta.specs.Shortest.{LeadsTo}
 use Rattle.delta.proofs.Shortest as delta
-use Rattle.past.specs.declared.create.Creation.TheVariants.{Done}
 use Rattle.past.specs.Create.{create_of}
 use Rattle.past.specs.Run.{Call, Reached, start_of, run_of}
 use Rattle.past.specs.Promise.{OfBytes, Leads, written_in, current, Promise}
 use Rattle.past.specs.Shortest.{ShortestHome, Shortest}
 use Rattle.past.proofs.Runs.{promise}
 use Rattle.past.proofs.Given.{given_good, all_carried, good_current}
+use Rattle.std.specs.Prelude.{Ok}
 
 module _ (session keep : ℕ) (start : Serial) (r : Reached) (p : Promise session keep start r) (goods : All GoodSnapshot r.given) where
   home : (asked : Serial) (answer : Bytes) → ¬ (r.given ≡ []) → Leads start r.given (current r.world) asked answer →
@@ -31,7 +31,7 @@ module _ (session keep : ℕ) (start : Serial) (r : Reached) (p : Promise sessio
         balance = (delta.shortest).balance l.base (current r.world) answer b t;
       }
 
-pub shortest : (session keep : ℕ) (start : Serial) (snapshots deltas : Bytes) → start.0 < 2 ^ 32 → (create_of session keep start snapshots deltas).answer ≡ Done →
+pub shortest : (session keep : ℕ) (start : Serial) (snapshots deltas : Bytes) → start.0 < 2 ^ 32 → (create_of session keep start snapshots deltas).answer ≡ Ok tt →
     (calls : List Call) → All OfBytes calls → Shortest start (run_of (start_of session keep start snapshots deltas) calls)
 shortest session keep start snapshots deltas bound done calls octets =
     go (run_of (start_of session keep start snapshots deltas) calls)

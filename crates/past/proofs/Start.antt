@@ -8,8 +8,6 @@ use Rattle.serial.specs.Serial.{zero_serial, distance_of}
 use Rattle.serial.proofs.Steps.{same_serial}
 use Rattle.body.specs.declared.tag.Form.TheVariants.{Snapshot}
 use Rattle.payload.specs.Content.{Bytes}
-use Rattle.delta.specs.declared.admit.Admitted.{Admitted}
-use Rattle.delta.specs.declared.admit.Admitted.TheVariants.{Yes, No}
 use Rattle.delta.specs.Admission.{admit_one_of}
 use Rattle.delta.specs.Answer.{out_after}
 use Rattle.past.specs.declared.state.History.{History}
@@ -21,6 +19,8 @@ use Rattle.past.specs.Full.{full_of, notify_of, ready_of}
 use Rattle.past.specs.Run.{World, Call, update, query, full, notify, ready, updated, queried, reply_of, step_of}
 use Rattle.past.specs.Promise.{changes_in}
 use Rattle.past.specs.Start.{started_at, world_at, Start}
+use Rattle.delta.specs.Admission.{Admitted}
+use Rattle.std.specs.Prelude.{Err, Ok}
 
 start_kept : (w : World) (c : Call) → (step_of w c).history.start ≡ w.history.start
 unfolding update_of
@@ -47,8 +47,8 @@ module _ (s t : Serial) (w : World) (e : good_serial (started_at s w.history) �
   same_step new = rw (same_formed, admitted (admit_one_of Snapshot new))
     where
       admitted : (a : Admitted) → admitted_step a (started_at s w.history) new w.snapshots w.deltas ≡ admitted_step a (started_at t w.history) new w.snapshots w.deltas
-      admitted Yes = refl
-      admitted (No r) = refl
+      admitted (Ok tt) = refl
+      admitted (Err r) = refl
 
   -- what a step answers and leaves
   answered : (new : Bytes) (x : Step) → (update_at x (started_at s w.history) new w.deltas).answer ≡ (update_at x (started_at t w.history) new w.deltas).answer
@@ -74,8 +74,8 @@ module _ (s t : Serial) (w : World) (e : good_serial (started_at s w.history) �
 
   -- what a query gets that is admitted or not
   asked_at : (a : Admitted) (d : Bytes) (room : ℕ) → query_at a (started_at s w.history) d room ≡ query_at a (started_at t w.history) d room
-  asked_at Yes d room = refl
-  asked_at (No r) d room = refl
+  asked_at (Ok tt) d room = refl
+  asked_at (Err r) d room = refl
 
   same_answers : (c : Call) → (reply_of (world_at s w) c ≡ reply_of (world_at t w) c) × (world_at t (step_of (world_at s w) c) ≡ step_of (world_at t w) c)
   unfolding update_of update_snapshots update_deltas query_of query_out full_of notify_of ready_of
@@ -95,8 +95,8 @@ module _ (s t : Serial) (w : World) (e : good_serial (started_at s w.history) �
   same_answers ready = (refl, refl)
 
 created_zero : (session keep : ℕ) (a : Admitted) → ((create_at a session keep zero_serial).history.start ≡ zero_serial) × ((create_at a session keep zero_serial).history.newest ≡ zero_serial)
-created_zero session keep Yes = (refl, refl)
-created_zero session keep (No r) = (refl, refl)
+created_zero session keep (Ok tt) = (refl, refl)
+created_zero session keep (Err r) = (refl, refl)
 
 pub start : Start
 unfolding create_of

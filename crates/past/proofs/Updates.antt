@@ -16,21 +16,17 @@ use Rattle.change.proofs.Chain.{all_newest}
 use Rattle.serial.specs.declared.Serial.{Serial}
 use Rattle.number.specs.Bytes.{AllBytes}
 use Rattle.body.specs.declared.tag.Form.TheVariants.{Snapshot}
-use Rattle.field.specs.declared.verdict.Verdict.TheVariants.{Bad, Senseless, NotAbove}
 use Rattle.field.specs.Verdict.{verdict}
 use Rattle.payload.specs.Content.{Bytes}
 use Rattle.payload.specs.Limit.{limit}
 use Rattle.item.specs.declared.sink.Counts.{Counts}
 use Rattle.delta.specs.declared.refusal.Refusal.{Refusal}
 use Rattle.delta.specs.declared.refusal.Refusal.TheVariants as refusals
-use Rattle.delta.specs.declared.admit.Admitted.TheVariants.{Yes, No}
 use Rattle.delta.specs.Admission.{admit_one_of}
 use Rattle.delta.specs.Answer.{difference_of, counts_of}
 use Rattle.delta.specs.Demand.{GoodSnapshot, Acceptable}
 use Rattle.delta.proofs.Differences.{difference_empty, difference_self}
 use Rattle.delta.proofs.Demand.{no_bytes}
-use Rattle.past.specs.declared.update.Update.{Update}
-use Rattle.past.specs.declared.update.Update.TheVariants.{First, Unchanged, Changed}
 use Rattle.past.specs.Store.{total}
 use Rattle.past.specs.WellFormed.{well_formed}
 use Rattle.past.specs.Update.{Step, refuse, first, unchanged, add, deltas_with, step_for, update_of}
@@ -39,6 +35,10 @@ use Rattle.past.specs.Promise.{current, differences_in, Room, Again, Updates}
 use Rattle.past.proofs.Steps.{fine_admitted, input_ten, input_one, input_twelve, input_two, step_add, step_first, step_unchanged, refused_step, first_step_lem, same_step, changed_step, step_changed, input_refused, step_nine, unchanged_step, begins_step, first_nine, adds_step, later_nine}
 use Rattle.past.proofs.Invariant.{Waits, Holds, Inv, waits_formed, holds_formed, would_hold}
 use Rattle.past.proofs.Numbers.{through, update_refused}
+use Rattle.std.specs.Prelude.{Err, Ok, Result}
+use Rattle.field.specs.declared.verdict.Flaw.TheVariants as flaw
+use Rattle.past.specs.declared.update.Update.TheVariants as outcome
+use Rattle.past.specs.declared.update.Update.{Update}
 
 -- two answers that differ: from them anything follows
 
@@ -55,7 +55,7 @@ short_or_long m n k = go (leb m n) refl
     go false e = leb-false m n e
 
 module _ (w : World) (new : Bytes) where
-  abbrev answer : Update
+  abbrev answer : Result Update Refusal
   answer = (update_of w.history new w.snapshots w.deltas).answer
 
   abbrev step : Step
@@ -64,30 +64,30 @@ module _ (w : World) (new : Bytes) where
   abbrev c : Bytes
   c = difference_of (current w) new
 
-  answered : (a : Update) → reply_of w (update new) ≡ updated a ↔ answer ≡ a
+  answered : (a : Result Update Refusal) → reply_of w (update new) ≡ updated a ↔ answer ≡ a
   answered a = (λ e. cc, λ e. ap updated e)
 
   module _ (formed : well_formed w.history w.snapshots w.deltas ≡ true) where
-    of_input : (r : Refusal) → ¬ (r ≡ refusals.StoreFull) → (numbered (refused_update answer) ≡ numbered (some r)) ↔ admit_one_of Snapshot new ≡ No r
+    of_input : (r : Refusal) → ¬ (r ≡ refusals.StoreFull) → (numbered (refused_update answer) ≡ numbered (some r)) ↔ admit_one_of Snapshot new ≡ Err r
     of_input r n = through (update_refused answer r) (input_refused w.history new w.snapshots w.deltas formed r n)
 
     ten : refused_as (reply_of w (update new)) ≡ refusal 10 1 0 ↔ limit Snapshot < length new
     ten = through (of_input (refusals.TooLong 1) (λ e. never cc)) (input_ten Snapshot new)
 
-    one : (at : ℕ) → refused_as (reply_of w (update new)) ≡ refusal 1 1 at ↔ (length new ≤ limit Snapshot) × (verdict Snapshot new ≡ Bad at)
+    one : (at : ℕ) → refused_as (reply_of w (update new)) ≡ refusal 1 1 at ↔ (length new ≤ limit Snapshot) × (verdict Snapshot new ≡ Err (flaw.Bad at))
     one at = through (of_input (refusals.Bad 1 at) (λ e. never cc)) (input_one Snapshot new at)
 
-    twelve : (at : ℕ) → refused_as (reply_of w (update new)) ≡ refusal 12 1 at ↔ (length new ≤ limit Snapshot) × (verdict Snapshot new ≡ Senseless at)
+    twelve : (at : ℕ) → refused_as (reply_of w (update new)) ≡ refusal 12 1 at ↔ (length new ≤ limit Snapshot) × (verdict Snapshot new ≡ Err (flaw.Senseless at))
     twelve at = through (of_input (refusals.Senseless 1 at) (λ e. never cc)) (input_twelve Snapshot new at)
 
-    two : (at : ℕ) → refused_as (reply_of w (update new)) ≡ refusal 2 1 at ↔ (length new ≤ limit Snapshot) × (verdict Snapshot new ≡ NotAbove at)
+    two : (at : ℕ) → refused_as (reply_of w (update new)) ≡ refusal 2 1 at ↔ (length new ≤ limit Snapshot) × (verdict Snapshot new ≡ Err (flaw.NotAbove at))
     two at = through (of_input (refusals.NotAbove 1 at) (λ e. never cc)) (input_two Snapshot new at)
 
   -- 9 exactly if the step says so
   nine_step : refused_as (reply_of w (update new)) ≡ refusal 9 0 0 ↔ step ≡ refuse refusals.StoreFull
   nine_step = through (update_refused answer refusals.StoreFull) (refused_step w.history new w.snapshots w.deltas refusals.StoreFull)
 
-  acceptable_admitted : Acceptable new → admit_one_of Snapshot new ≡ Yes
+  acceptable_admitted : Acceptable new → admit_one_of Snapshot new ≡ Ok tt
   acceptable_admitted a = fine_admitted Snapshot new a.short a.good.fine
 
 module _ (session keep : ℕ) (start : Serial) (w : World) (new : Bytes) (octets : AllBytes new) where
@@ -124,10 +124,10 @@ module _ (session keep : ℕ) (start : Serial) (w : World) (new : Bytes) (octets
     inactive : {X : Type 0} → w.history.active ≡ true → X
     inactive q = let p = i.active in never cc
 
-    no_change : {X : Type 0} → answer w new ≡ Unchanged → X
+    no_change : {X : Type 0} → answer w new ≡ Ok outcome.Unchanged → X
     no_change e = inactive (step_unchanged w.history new w.snapshots w.deltas ((same_step w.history new w.snapshots w.deltas).0 e)).2
 
-    no_delta : {X : Type 0} (k : Counts) → answer w new ≡ Changed k → X
+    no_delta : {X : Type 0} (k : Counts) → answer w new ≡ Ok (outcome.Changed k) → X
     no_delta k e =
         let f = changed_step w.history new w.snapshots w.deltas k e in
         inactive (step_add w.history new w.snapshots w.deltas f.0 f.1).active
@@ -143,10 +143,10 @@ module _ (session keep : ℕ) (start : Serial) (w : World) (new : Bytes) (octets
         λ e. first_nine w.history new w.snapshots w.deltas (waits_formed i) (acceptable_admitted w new e.0) i.active
             (short_or_long (length new) (length w.snapshots) (λ l. e.2 (first_room l))),
       );
-      first = through (answered w new First) (through (first_step_lem w.history new w.snapshots w.deltas) (begun, λ e. begins e.0 e.2));
-      unchanged = (λ e. no_change ((answered w new Unchanged).0 e), λ e. absurd (e.active refl));
-      changed = λ k. (λ e. no_delta k ((answered w new (Changed k)).0 e), λ e. absurd (e.1 refl));
-      accepts = λ a m. ap (λ (x : Update). numbered (refused_update x)) ((first_step_lem w.history new w.snapshots w.deltas).1 (begins a m));
+      first = through (answered w new (Ok outcome.First)) (through (first_step_lem w.history new w.snapshots w.deltas) (begun, λ e. begins e.0 e.2));
+      unchanged = (λ e. no_change ((answered w new (Ok outcome.Unchanged)).0 e), λ e. absurd (e.active refl));
+      changed = λ k. (λ e. no_delta k ((answered w new (Ok (outcome.Changed k))).0 e), λ e. absurd (e.1 refl));
+      accepts = λ a m. ap (λ (x : Result Update Refusal). numbered (refused_update x)) ((first_step_lem w.history new w.snapshots w.deltas).1 (begins a m));
     }
 
   -- ---- after it
@@ -190,7 +190,7 @@ module _ (session keep : ℕ) (start : Serial) (w : World) (new : Bytes) (octets
     grows a n m =
         adds_step w.history new w.snapshots w.deltas (holds_formed i) (acceptable_admitted w new a) i.active (λ e. n (same_current a.good e)) m.snapshot (held_room m)
 
-    grown : (k : Counts) → answer w new ≡ Changed k →
+    grown : (k : Counts) → answer w new ≡ Ok (outcome.Changed k) →
         Acceptable new × ¬ (S ∷ Ts ≡ []) × ¬ (new ≡ current w) × Room keep w (S ∷ Ts) new × (k ≡ counts_of (c w new))
     grown k e =
         let f = changed_step w.history new w.snapshots w.deltas k e in
@@ -216,7 +216,7 @@ module _ (session keep : ℕ) (start : Serial) (w : World) (new : Bytes) (octets
         past (inl l) m = let k = m.snapshot in omega arith
         past (inr l) m = let k = held_room m in let j = l.1 in omega arith
 
-    no_first : {X : Type 0} → answer w new ≡ First → X
+    no_first : {X : Type 0} → answer w new ≡ Ok outcome.First → X
     no_first e =
         let p = (step_first w.history new w.snapshots w.deltas ((first_step_lem w.history new w.snapshots w.deltas).0 e)).active in
         let q = i.active in never cc
@@ -228,10 +228,10 @@ module _ (session keep : ℕ) (start : Serial) (w : World) (new : Bytes) (octets
         go : (t : Bool) → eqb (length (c w new)) 0 ≡ t → refused_as (reply_of w (update new)) ≡ none
         go true e =
             let s : Again w (S ∷ Ts) new = record { active = λ n. full_list n; same = same_current a.good (eqb-true (length (c w new)) 0 e) } in
-            ap (λ (x : Update). numbered (refused_update x)) ((same_step w.history new w.snapshots w.deltas).1 (again_step s))
+            ap (λ (x : Result Update Refusal). numbered (refused_update x)) ((same_step w.history new w.snapshots w.deltas).1 (again_step s))
         go false e =
             let n : ¬ (new ≡ current w) = λ q. eqb-false (length (c w new)) 0 e (current_same q) in
-            ap (λ (x : Update). numbered (refused_update x)) (step_changed w.history new w.snapshots w.deltas (c w new) (grows a n m))
+            ap (λ (x : Result Update Refusal). numbered (refused_update x)) (step_changed w.history new w.snapshots w.deltas (c w new) (grows a n m))
 
     pub holds_updates : Updates keep w (S ∷ Ts) new
     holds_updates = record {
@@ -245,11 +245,11 @@ module _ (session keep : ℕ) (start : Serial) (w : World) (new : Bytes) (octets
             (λ z. e.1 (record { active = λ n. full_list n; same = same_current e.0.good z }))
             (λ m. e.2 (later_room m.0 m.1)),
       );
-      first = (λ e. no_first ((answered w new First).0 e), λ e. full_list e.1);
-      unchanged = through (answered w new Unchanged) (through (same_step w.history new w.snapshots w.deltas) (step_again, again_step));
-      changed = λ k. through (answered w new (Changed k)) (
+      first = (λ e. no_first ((answered w new (Ok outcome.First)).0 e), λ e. full_list e.1);
+      unchanged = through (answered w new (Ok outcome.Unchanged)) (through (same_step w.history new w.snapshots w.deltas) (step_again, again_step));
+      changed = λ k. through (answered w new (Ok (outcome.Changed k))) (
         grown k,
-        λ e. step_changed w.history new w.snapshots w.deltas (c w new) (grows e.0 e.2 e.3) ∙ ap (λ (x : Counts). Changed x) (sym e.4),
+        λ e. step_changed w.history new w.snapshots w.deltas (c w new) (grows e.0 e.2 e.3) ∙ ap (λ (x : Counts). Ok (outcome.Changed x)) (sym e.4),
       );
       accepts = accepted;
     }

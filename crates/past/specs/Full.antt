@@ -1,10 +1,9 @@
 -- The full answer, the notice and the active mark.
-use Rattle.std.specs.Prelude.{Bool, cond}
+use Rattle.std.specs.Prelude.{Bool, cond, Err, Ok}
 use Rattle.serial.specs.Serial.{zero_serial, zero_session, session_of}
 use Rattle.payload.specs.Content.{Bytes}
 use Rattle.delta.specs.declared.refusal.Refusal.TheVariants.{IllFormed}
 use Rattle.past.specs.declared.state.History.{History}
-use Rattle.past.specs.declared.full.FullAnswer.TheVariants.{Refused, Held}
 use Rattle.past.specs.declared.full.Full.{Full}
 use Rattle.past.specs.declared.notify.Notice.{Notice}
 use Rattle.past.specs.WellFormed.{well_formed}
@@ -13,8 +12,8 @@ use Rattle.past.specs.WellFormed.{well_formed}
 unfoldable pub full_of : History → Bytes → Bytes → Full
 full_of h snapshots deltas =
     cond (well_formed h snapshots deltas)
-    (record { session = session_of h.session; serial = h.newest; answer = Held h.snapshot })
-    (record { session = zero_session; serial = zero_serial; answer = Refused IllFormed })
+    (record { session = session_of h.session; serial = h.newest; answer = Ok h.snapshot })
+    (record { session = zero_session; serial = zero_serial; answer = Err IllFormed })
 
 -- the 16-bit session and F
 unfoldable pub notify_of : History → Notice

@@ -1,23 +1,21 @@
 -- The marked examples of document 01, K1 to K11, on the smallest snapshots and deltas that show them.
-use Rattle.std.specs.Prelude.{ℕ, ◌≡◌, List, [], ◌∷◌, ◌++◌, length, replicate}
+use Rattle.delta.specs.Answer.{Merged}
+use Rattle.std.specs.Prelude.{ℕ, ◌≡◌, List, [], ◌∷◌, ◌++◌, length, replicate, Ok, Result, None, Err}
 use Rattle.serial.specs.declared.Serial.{Serial}
-use Rattle.serial.specs.declared.order.Standing.TheVariants.{Unordered}
 use Rattle.serial.specs.declared.timing.Timing.{Timing}
 use Rattle.serial.specs.Rfc1982.{standing}
 use Rattle.serial.specs.Timing.{timing_of}
 use Rattle.payload.specs.Content.{Bytes}
 use Rattle.delta.specs.declared.refusal.Refusal.TheVariants.{NotServed}
-use Rattle.delta.specs.declared.construct.Constructed.TheVariants.{NoChange}
-use Rattle.delta.specs.declared.merge.Merged.{Merged}
-use Rattle.delta.specs.declared.merge.Merged.TheVariants as merged
 use Rattle.delta.specs.Answer.{merged_of, counts_of, construct_of, merge_of, merge_out}
 use Rattle.past.specs.declared.state.History.{History}
-use Rattle.past.specs.declared.query.Answer.TheVariants.{Refused, Served}
 use Rattle.past.specs.declared.query.Queried.{Queried}
 use Rattle.past.specs.Store.{joined, holding_of}
 use Rattle.payload.specs.Written.{written_over}
 use Rattle.past.specs.Create.{fresh_of}
 use Rattle.past.specs.Query.{query_of, query_out}
+use Rattle.item.specs.declared.sink.Counts.{Counts}
+use Rattle.delta.specs.declared.refusal.Refusal.{Refusal}
 
 abbrev pub serial : ℕ → Serial
 serial n = record { 0 = n }
@@ -72,18 +70,18 @@ asks newest s ds asked = (
 
 -- it gets a delta
 abbrev pub gets : ℕ → Bytes → Queried × Bytes
-gets newest d = (record { session = record { 0 = 7 }; serial = serial newest; answer = Served (counts_of d) }, written_over d lent)
+gets newest d = (record { session = record { 0 = 7 }; serial = serial newest; answer = Ok (counts_of d) }, written_over d lent)
 
 -- it gets refusal 6
 abbrev pub gets_six : Queried × Bytes
-gets_six = (record { session = record { 0 = 0 }; serial = serial 0; answer = Refused NotServed }, lent)
+gets_six = (record { session = record { 0 = 0 }; serial = serial 0; answer = Err NotServed }, lent)
 
 -- what a merge gets, and the output afterwards
 abbrev pub merges : Bytes → Bytes → Merged × Bytes
 merges earlier later = (merge_of earlier later (serial 2) (length lent), merge_out earlier later lent)
 
 abbrev pub into : Bytes → Merged × Bytes
-into d = (merged.Delta (serial 2) (counts_of d), written_over d lent)
+into d = (Ok (serial 2, counts_of d), written_over d lent)
 
 abbrev pub seconds : ℕ → ℕ → ℕ → Timing
 seconds refresh retry expire = record { refresh = refresh; retry = retry; expire = expire }
@@ -91,7 +89,7 @@ seconds refresh retry expire = record { refresh = refresh; retry = retry; expire
 -- the table
 pub record Marked : Type 0 where
   -- empty to empty: no change
-  pub k1 : construct_of [] [] (serial 0) 0 ≡ NoChange
+  pub k1 : construct_of [] [] (serial 0) 0 ≡ Ok None
   -- n = 0: serial 0 empty delta, serial 1 gets 6
   pub k2 : (asks 0 (in_snapshot p) [] 0 ≡ gets 0 []) × (asks 0 (in_snapshot p) [] 1 ≡ gets_six)
   -- deltas 2, 1: serial 0 gets 1 merged with 2, 1 gets delta 2, 2 empty, 3 gets 6
@@ -104,7 +102,7 @@ pub record Marked : Type 0 where
   -- deltas 3, 2, 1: serial 1 gets 2 merged with 3
   pub k5 : asks 3 [] (delta1 ∷ delta2 ∷ delta3 ∷ []) 1 ≡ gets 3 (merged_of delta2 delta3)
   -- delta 1 alone, serial 2,147,483,649: 6; by RFC 1982 the two are unordered
-  pub k6 : (asks 1 (in_snapshot p) (delta1 ∷ []) 2_147_483_649 ≡ gets_six) × (standing (serial 2_147_483_649) (serial 1) ≡ Unordered)
+  pub k6 : (asks 1 (in_snapshot p) (delta1 ∷ []) 2_147_483_649 ≡ gets_six) × (standing (serial 2_147_483_649) (serial 1) ≡ None)
   -- deltas 0, 4,294,967,295, 4,294,967,294: serial 4,294,967,294 gets the last two merged
   pub k7 : asks 0 [] (delta1 ∷ delta2 ∷ delta3 ∷ []) 4_294_967_294 ≡ gets 0 (merged_of delta2 delta3)
   -- withdraw(p) then announce p: nothing

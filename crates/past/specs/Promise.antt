@@ -1,5 +1,5 @@
 -- What is promised of every run of calls from a fresh history: demand 3, second part.
-use Rattle.std.specs.Prelude.{ℕ, ◌+◌, ◌-◌, ◌%◌, ◌^◌, ◌≤◌, ◌<◌, min, ◌≡◌, List, [], ◌∷◌, ◌++◌, map, true, ◌↔◌, ◌⊎◌, length, take}
+use Rattle.std.specs.Prelude.{ℕ, ◌+◌, ◌-◌, ◌%◌, ◌^◌, ◌≤◌, ◌<◌, min, ◌≡◌, List, [], ◌∷◌, ◌++◌, map, true, ◌↔◌, ◌⊎◌, length, take, None, Ok, Err, Some}
 use Rattle.std.proofs.Math.Option.{Option, none, some}
 use Rattle.order.specs.Comparison.{bytes}
 use Rattle.order.specs.Map as order
@@ -8,34 +8,30 @@ use Rattle.change.specs.History.{last_n, newest}
 use Rattle.change.specs.Grouping.{steps}
 use Rattle.serial.specs.declared.Serial.{Serial}
 use Rattle.serial.specs.declared.Session.{Session}
-use Rattle.serial.specs.declared.order.Standing.TheVariants.{Equal, Before, Unordered}
 use Rattle.serial.specs.Serial.{distance_of, session_of}
 use Rattle.serial.specs.Rfc1982.{standing}
 use Rattle.number.specs.Bytes.{AllBytes}
 use Rattle.body.specs.declared.tag.Form.TheVariants.{Snapshot, Delta}
-use Rattle.field.specs.declared.verdict.Verdict.TheVariants.{Bad, Senseless, NotAbove}
 use Rattle.field.specs.Verdict.{verdict}
 use Rattle.payload.specs.Content.{Bytes}
 use Rattle.payload.specs.Payload.{items, changes}
 use Rattle.payload.specs.Limit.{limit}
-use Rattle.fit.specs.declared.Fit.TheVariants.{All}
 use Rattle.item.specs.declared.sink.Counts.{Counts}
 use Rattle.fit.specs.Fit.{fit_of}
 use Rattle.delta.specs.Refusal.{Values}
 use Rattle.delta.specs.Answer.{difference_of, applied_of, counts_of}
 use Rattle.delta.specs.Demand.{Acceptable}
 use Rattle.payload.specs.Written.{written_over}
-use Rattle.past.specs.declared.create.Creation.{Creation}
-use Rattle.past.specs.declared.create.Creation.TheVariants as creation
-use Rattle.past.specs.declared.update.Update.TheVariants.{First, Unchanged, Changed}
-use Rattle.past.specs.declared.query.Answer.TheVariants.{Served}
 use Rattle.past.specs.declared.query.Queried.{Queried}
-use Rattle.past.specs.declared.full.FullAnswer.TheVariants.{Held}
 use Rattle.past.specs.Store.{total, held_snapshot}
 use Rattle.past.specs.WellFormed.{well_formed}
 use Rattle.past.specs.Create.{fresh_of, create_of}
 use Rattle.past.specs.Query.{query_of, query_out}
 use Rattle.past.specs.Run.{World, Call, update, query, full, notify, ready, updated, queried, fully, noticed, is_ready, reply_of, lent_to, left_in, step_of, numbered, refused_as, refusal, Reached, start_of, run_of, carried}
+use Rattle.delta.specs.Admission.{Admitted}
+use Rattle.field.specs.declared.verdict.Flaw.TheVariants as flaw
+use Rattle.past.specs.declared.update.Update.TheVariants as outcome
+use Rattle.std.specs.declared.cmp.Ordering.TheVariants as ordering
 
 -- the new snapshot of an update is a list of bytes, good or not; of other calls nothing is asked
 abbrev pub OfBytes : Call → Type 0
@@ -79,15 +75,15 @@ pub record Updates (keep : ℕ) (w : World) (given : List Bytes) (new : Bytes) :
   -- 10 exactly if it is over its length limit
   pub ten : refused_as (reply_of w (update new)) ≡ refusal 10 1 0 ↔ limit Snapshot < length new
   -- else 1, 12 or 2 exactly as the check finds its first bad field
-  pub one : (at : ℕ) → refused_as (reply_of w (update new)) ≡ refusal 1 1 at ↔ (length new ≤ limit Snapshot) × (verdict Snapshot new ≡ Bad at)
-  pub twelve : (at : ℕ) → refused_as (reply_of w (update new)) ≡ refusal 12 1 at ↔ (length new ≤ limit Snapshot) × (verdict Snapshot new ≡ Senseless at)
-  pub two : (at : ℕ) → refused_as (reply_of w (update new)) ≡ refusal 2 1 at ↔ (length new ≤ limit Snapshot) × (verdict Snapshot new ≡ NotAbove at)
+  pub one : (at : ℕ) → refused_as (reply_of w (update new)) ≡ refusal 1 1 at ↔ (length new ≤ limit Snapshot) × (verdict Snapshot new ≡ Err (flaw.Bad at))
+  pub twelve : (at : ℕ) → refused_as (reply_of w (update new)) ≡ refusal 12 1 at ↔ (length new ≤ limit Snapshot) × (verdict Snapshot new ≡ Err (flaw.Senseless at))
+  pub two : (at : ℕ) → refused_as (reply_of w (update new)) ≡ refusal 2 1 at ↔ (length new ≤ limit Snapshot) × (verdict Snapshot new ≡ Err (flaw.NotAbove at))
   -- else 9 exactly if it is not the current snapshot and a store has no room
   pub nine : refused_as (reply_of w (update new)) ≡ refusal 9 0 0 ↔ Acceptable new × ¬ Again w given new × ¬ Room keep w given new
   -- "first" exactly while nothing was accepted, "unchanged" exactly for the current snapshot again, else "changed" with the difference's counts
-  pub first : reply_of w (update new) ≡ updated First ↔ Acceptable new × (given ≡ []) × Room keep w given new
-  pub unchanged : reply_of w (update new) ≡ updated Unchanged ↔ Again w given new
-  pub changed : (c : Counts) → reply_of w (update new) ≡ updated (Changed c)
+  pub first : reply_of w (update new) ≡ updated (Ok outcome.First) ↔ Acceptable new × (given ≡ []) × Room keep w given new
+  pub unchanged : reply_of w (update new) ≡ updated (Ok outcome.Unchanged) ↔ Again w given new
+  pub changed : (c : Counts) → reply_of w (update new) ≡ updated (Ok (outcome.Changed c))
       ↔ Acceptable new × ¬ (given ≡ []) × ¬ (new ≡ current w) × Room keep w given new × (c ≡ counts_of (difference_of (current w) new))
   -- so a good snapshot within its limit for which both stores have room is never refused
   pub accepts : Acceptable new → Room keep w given new → refused_as (reply_of w (update new)) ≡ none
@@ -116,7 +112,7 @@ pub record Leads (start : Serial) (given : List Bytes) (now : Bytes) (asked : Se
   pub base : Bytes
   pub most_recent : carried start asked given ≡ some base
   pub applies : Applies bytes bytes (items base) (changes answer)
-  pub fits : fit_of base answer ≡ All
+  pub fits : fit_of base answer ≡ None
   pub yields : applied_of base answer ≡ now
   pub exact : answer ≡ difference_of base now
 
@@ -131,9 +127,9 @@ written_in w s asked out c = take c.len (query_out w.history s asked w.snapshots
 -- ---- every run
 
 -- what is answered to a creation
-abbrev pub refused_creation : Creation → Option Values
-refused_creation creation.Done = none
-refused_creation (creation.Refused r) = numbered (some r)
+abbrev pub refused_creation : Admitted → Option Values
+refused_creation (Ok tt) = none
+refused_creation (Err r) = numbered (some r)
 
 pub record Creates (session keep : ℕ) (start : Serial) (snapshots deltas : Bytes) : Type 0 where
   -- 8 exactly for a keep that is not 1 to 64, else 10 exactly for a store over its limit, the first one first
@@ -144,7 +140,7 @@ pub record Creates (session keep : ℕ) (start : Serial) (snapshots deltas : Byt
       ↔ (1 ≤ keep) × (keep ≤ 64) × (length snapshots ≤ limit Snapshot) × (limit Delta < length deltas)
   -- else a fresh history
   pub done : (1 ≤ keep) → (keep ≤ 64) → (length snapshots ≤ limit Snapshot) → (length deltas ≤ limit Delta) →
-      create_of session keep start snapshots deltas ≡ record { answer = creation.Done; history = fresh_of session keep start }
+      create_of session keep start snapshots deltas ≡ record { answer = Ok tt; history = fresh_of session keep start }
 
 pub record Promise (session keep : ℕ) (start : Serial) (r : Reached) : Type 0 where
   -- the history stays well formed with its stores, so that refusal 7 never comes
@@ -172,28 +168,28 @@ pub record Promise (session keep : ℕ) (start : Serial) (r : Reached) : Type 0 
   pub serves : (s : Session) (asked : Serial) (out : Bytes) → asked.0 < 2 ^ 32 → s.0 ≡ (session_of session).0 → InRule keep start r.given asked →
       length (due r.world start r.given asked) ≤ length out →
       reply_of r.world (query s asked out)
-      ≡ queried (record { session = session_of session; serial = serial_in start r.given; answer = Served (counts_of (due r.world start r.given asked)) })
+      ≡ queried (record { session = session_of session; serial = serial_in start r.given; answer = Ok (counts_of (due r.world start r.given asked)) })
       (written_over (due r.world start r.given asked) out)
   -- a served query's answer names the 16-bit session and F, and the length and counts of what it has written
-  pub names : (s : Session) (asked : Serial) (out : Bytes) (c : Counts) → (queried_in r.world s asked (length out)).answer ≡ Served c →
+  pub names : (s : Session) (asked : Serial) (out : Bytes) (c : Counts) → (queried_in r.world s asked (length out)).answer ≡ Ok c →
       ((queried_in r.world s asked (length out)).session ≡ session_of session) × ((queried_in r.world s asked (length out)).serial ≡ serial_in start r.given)
       × (c ≡ counts_of (written_in r.world s asked out c))
   -- once a first snapshot is accepted, what a served query has written leads to the current snapshot
   pub leads : (s : Session) (asked : Serial) (out : Bytes) (c : Counts) → asked.0 < 2 ^ 32 → ¬ (r.given ≡ []) →
-      (queried_in r.world s asked (length out)).answer ≡ Served c →
+      (queried_in r.world s asked (length out)).answer ≡ Ok c →
       Leads start r.given (current r.world) asked (written_in r.world s asked out c)
   -- by RFC 1982 a serial that is served is equal to the newest one or before it
-  pub ordered : (s : Session) (asked : Serial) (out : Bytes) (c : Counts) → asked.0 < 2 ^ 32 → (queried_in r.world s asked (length out)).answer ≡ Served c →
-      (standing asked (serial_in start r.given) ≡ Equal) ⊎ (standing asked (serial_in start r.given) ≡ Before)
+  pub ordered : (s : Session) (asked : Serial) (out : Bytes) (c : Counts) → asked.0 < 2 ^ 32 → (queried_in r.world s asked (length out)).answer ≡ Ok c →
+      (standing asked (serial_in start r.given) ≡ Some ordering.Equal) ⊎ (standing asked (serial_in start r.given) ≡ Some ordering.Less)
   -- so one that is unordered with the newest is refused with 6
   pub unordered : (s : Session) (asked : Serial) (out : Bytes) → asked.0 < 2 ^ 32 → s.0 ≡ (session_of session).0 →
-      standing asked (serial_in start r.given) ≡ Unordered → refused_as (reply_of r.world (query s asked out)) ≡ refusal 6 0 0
+      standing asked (serial_in start r.given) ≡ None → refused_as (reply_of r.world (query s asked out)) ≡ refusal 6 0 0
   -- the full answer names the 16-bit session and F too, with the current snapshot; so does the notice; the mark says whether one was accepted
-  pub whole : reply_of r.world full ≡ fully (record { session = session_of session; serial = serial_in start r.given; answer = Held (length (current r.world)) })
+  pub whole : reply_of r.world full ≡ fully (record { session = session_of session; serial = serial_in start r.given; answer = Ok (length (current r.world)) })
   pub notice : reply_of r.world notify ≡ noticed (record { session = session_of session; serial = serial_in start r.given })
   pub mark : reply_of r.world ready ≡ is_ready true ↔ ¬ (r.given ≡ [])
 
 -- of every run of calls from a creation that is done
 abbrev pub EveryRun : Type 0
-EveryRun = (session keep : ℕ) (start : Serial) (snapshots deltas : Bytes) → start.0 < 2 ^ 32 → (create_of session keep start snapshots deltas).answer ≡ creation.Done →
+EveryRun = (session keep : ℕ) (start : Serial) (snapshots deltas : Bytes) → start.0 < 2 ^ 32 → (create_of session keep start snapshots deltas).answer ≡ Ok tt →
     (calls : List Call) → order.All OfBytes calls → Promise session keep start (run_of (start_of session keep start snapshots deltas) calls)

@@ -1,5 +1,5 @@
 -- The query of a serial.
-use Rattle.std.specs.Prelude.{ℕ, List, map, Bool, true, false, cond, leb, eqb, length}
+use Rattle.std.specs.Prelude.{ℕ, List, map, Bool, true, false, cond, leb, eqb, length, Err, Ok}
 use Rattle.order.specs.Comparison.{bytes}
 use Rattle.change.specs.Merge.{merge_all}
 use Rattle.change.specs.History.{last_n}
@@ -11,15 +11,13 @@ use Rattle.payload.specs.Content.{Bytes}
 use Rattle.payload.specs.Payload.{encode, changes}
 use Rattle.delta.specs.declared.refusal.Refusal.{Refusal}
 use Rattle.delta.specs.declared.refusal.Refusal.TheVariants.{NoRoom, OtherSession, NotServed, IllFormed}
-use Rattle.delta.specs.declared.admit.Admitted.{Admitted}
-use Rattle.delta.specs.declared.admit.Admitted.TheVariants.{Yes, No}
 use Rattle.delta.specs.Admission.{and_then}
 use Rattle.delta.specs.Answer.{counts_of, out_after}
 use Rattle.past.specs.declared.state.History.{History}
-use Rattle.past.specs.declared.query.Answer.TheVariants.{Refused, Served}
 use Rattle.past.specs.declared.query.Queried.{Queried}
 use Rattle.past.specs.Store.{held_deltas}
 use Rattle.past.specs.WellFormed.{well_formed}
+use Rattle.delta.specs.Admission.{Admitted}
 
 -- with n deltas, is a serial served that is d steps before the newest: with n = 0 only the start serial is,
 -- with n above 0 d from 0 to n
@@ -32,8 +30,8 @@ is_session h session = eqb session.0 (session_of h.session).0
 
 -- a test that is passed, or its refusal
 abbrev pub passes : Bool → Refusal → Admitted
-passes true r = Yes
-passes false r = No r
+passes true r = Ok tt
+passes false r = Err r
 
 -- 5, then 6
 abbrev pub ask_admitted : History → Session → Serial → Admitted
@@ -54,16 +52,16 @@ answer_of h asked deltas = merged_last (distance_of h.newest asked) (held_deltas
 
 -- refused: other numbers 0
 abbrev pub refused_with : Refusal → Queried
-refused_with r = record { session = zero_session; serial = zero_serial; answer = Refused r }
+refused_with r = record { session = zero_session; serial = zero_serial; answer = Err r }
 
 -- the 16-bit session and F, and the answer's length and counts
 abbrev pub served_with : History → Bytes → Queried
-served_with h d = record { session = session_of h.session; serial = h.newest; answer = Served (counts_of d) }
+served_with h d = record { session = session_of h.session; serial = h.newest; answer = Ok (counts_of d) }
 
 -- 4 if the answer is longer than the output lent
 abbrev pub query_at : Admitted → History → Bytes → ℕ → Queried
-query_at (No r) h d room = refused_with r
-query_at Yes h d room = cond (leb (length d) room) (served_with h d) (refused_with NoRoom)
+query_at (Err r) h d room = refused_with r
+query_at (Ok tt) h d room = cond (leb (length d) room) (served_with h d) (refused_with NoRoom)
 
 -- history, session, serial, the two stores (which stay as they were), room
 unfoldable pub query_of : History → Session → Serial → Bytes → Bytes → ℕ → Queried

@@ -1,5 +1,5 @@
 -- Runs of calls: each is handed the state and the stores that the one before left.
-use Rattle.std.specs.Prelude.{ℕ, Bool, cond, eqb, length}
+use Rattle.std.specs.Prelude.{ℕ, Bool, cond, eqb, length, Err, Ok, Result}
 use mathlib.Core.List.{List, [], ◌∷◌, ◌++◌, foldl}
 use Rattle.std.proofs.Math.Option.{Option, none, some}
 use Rattle.serial.specs.declared.Serial.{Serial}
@@ -9,19 +9,16 @@ use Rattle.payload.specs.Content.{Bytes}
 use Rattle.delta.specs.declared.refusal.Refusal.{Refusal}
 use Rattle.delta.specs.Refusal.{Values, values_of}
 use Rattle.past.specs.declared.state.History.{History}
-use Rattle.past.specs.declared.update.Update.{Update}
-use Rattle.past.specs.declared.update.Update.TheVariants as updates
-use Rattle.past.specs.declared.query.Answer.{Answer}
-use Rattle.past.specs.declared.query.Answer.TheVariants as answers
 use Rattle.past.specs.declared.query.Queried.{Queried}
 use Rattle.past.specs.declared.full.Full.{Full}
-use Rattle.past.specs.declared.full.FullAnswer.{FullAnswer}
-use Rattle.past.specs.declared.full.FullAnswer.TheVariants as fulls
 use Rattle.past.specs.declared.notify.Notice.{Notice}
 use Rattle.past.specs.Create.{create_of}
 use Rattle.past.specs.Update.{update_of, update_snapshots, update_deltas}
 use Rattle.past.specs.Query.{query_of, query_out}
 use Rattle.past.specs.Full.{full_of, notify_of, ready_of}
+use Rattle.item.specs.declared.sink.Counts.{Counts}
+use Rattle.past.specs.declared.update.Update.TheVariants as outcome
+use Rattle.past.specs.declared.update.Update.{Update}
 
 -- a history and its two stores
 pub record World : Type 0 where
@@ -39,7 +36,7 @@ pub data Call : Type 0 where
 
 -- what a call answers; a query's output afterwards
 pub data Reply : Type 0 where
-  updated : Update → Reply
+  updated : Result Update Refusal → Reply
   queried : Queried → (out : Bytes) → Reply
   fully : Full → Reply
   noticed : Notice → Reply
@@ -83,19 +80,19 @@ step_of w notify = w
 step_of w ready = w
 
 -- a reply's refusal, if it is one
-abbrev pub refused_update : Update → Option Refusal
-refused_update updates.First = none
-refused_update updates.Unchanged = none
-refused_update (updates.Changed counts) = none
-refused_update (updates.Refused r) = some r
+abbrev pub refused_update : Result Update Refusal → Option Refusal
+refused_update (Ok outcome.First) = none
+refused_update (Ok outcome.Unchanged) = none
+refused_update (Ok (outcome.Changed counts)) = none
+refused_update (Err r) = some r
 
-abbrev pub refused_answer : Answer → Option Refusal
-refused_answer (answers.Refused r) = some r
-refused_answer (answers.Served counts) = none
+abbrev pub refused_answer : Result Counts Refusal → Option Refusal
+refused_answer (Err r) = some r
+refused_answer (Ok counts) = none
 
-abbrev pub refused_full : FullAnswer → Option Refusal
-refused_full (fulls.Refused r) = some r
-refused_full (fulls.Held len) = none
+abbrev pub refused_full : Result ℕ Refusal → Option Refusal
+refused_full (Err r) = some r
+refused_full (Ok len) = none
 
 abbrev pub refusal_in : Reply → Option Refusal
 refusal_in (updated a) = refused_update a
@@ -121,11 +118,11 @@ pub record Reached : Type 0 where
   pub world : World
   pub given : List Bytes
 
-abbrev pub given_by : Update → Bytes → List Bytes → List Bytes
-given_by updates.First new given = given ++ (new ∷ [])
-given_by updates.Unchanged new given = given
-given_by (updates.Changed counts) new given = given ++ (new ∷ [])
-given_by (updates.Refused r) new given = given
+abbrev pub given_by : Result Update Refusal → Bytes → List Bytes → List Bytes
+given_by (Ok outcome.First) new given = given ++ (new ∷ [])
+given_by (Ok outcome.Unchanged) new given = given
+given_by (Ok (outcome.Changed counts)) new given = given ++ (new ∷ [])
+given_by (Err r) new given = given
 
 abbrev pub given_after : World → Call → List Bytes → List Bytes
 given_after w (update new) given = given_by (update_of w.history new w.snapshots w.deltas).answer new given

@@ -1,5 +1,5 @@
 -- A served query's answer among all deltas that lead the same way, after every run of calls.
-use Rattle.std.specs.Prelude.{◌^◌, ◌<◌, ◌≡◌, List, [], length}
+use Rattle.std.specs.Prelude.{◌^◌, ◌<◌, ◌≡◌, List, [], length, Ok}
 use Rattle.std.proofs.Math.Option.{some}
 use Rattle.serial.specs.declared.Serial.{Serial}
 use Rattle.serial.specs.declared.Session.{Session}
@@ -7,7 +7,6 @@ use Rattle.number.specs.Bytes.{AllBytes}
 use Rattle.payload.specs.Content.{Bytes}
 use Rattle.item.specs.declared.sink.Counts.{Counts}
 use Rattle.delta.specs.Shortest.{LeadsTo, NoLonger, Balance}
-use Rattle.past.specs.declared.query.Answer.TheVariants.{Served}
 use Rattle.past.specs.Run.{Reached, carried}
 use Rattle.past.specs.Promise.{queried_in, written_in, current}
 
@@ -24,5 +23,5 @@ pub record ShortestHome (start : Serial) (given : List Bytes) (now : Bytes) (ask
 -- once a first snapshot is accepted, each served query leaves such an answer in its output
 pub record Shortest (start : Serial) (r : Reached) : Type 0 where
   pub home : (s : Session) (asked : Serial) (out : Bytes) (c : Counts) → asked.0 < 2 ^ 32 → ¬ (r.given ≡ []) →
-      (queried_in r.world s asked (length out)).answer ≡ Served c →
+      (queried_in r.world s asked (length out)).answer ≡ Ok c →
       ShortestHome start r.given (current r.world) asked (written_in r.world s asked out c)

@@ -1,20 +1,19 @@
 -- An update with a new snapshot.
-use Rattle.std.specs.Prelude.{ℕ, List, [], ◌∷◌, ◌++◌, map, cond, ◌&&◌, leb, eqb, length, drop}
+use Rattle.std.specs.Prelude.{ℕ, List, [], ◌∷◌, ◌++◌, map, cond, ◌&&◌, leb, eqb, length, drop, Err, Ok}
 use Rattle.serial.specs.Serial.{next_of}
 use Rattle.body.specs.declared.tag.Form.TheVariants.{Snapshot}
 use Rattle.payload.specs.Content.{Bytes}
 use Rattle.delta.specs.declared.refusal.Refusal.{Refusal}
 use Rattle.delta.specs.declared.refusal.Refusal.TheVariants.{IllFormed, StoreFull}
-use Rattle.delta.specs.declared.admit.Admitted.{Admitted}
-use Rattle.delta.specs.declared.admit.Admitted.TheVariants.{Yes, No}
 use Rattle.delta.specs.Admission.{admit_one_of}
 use Rattle.delta.specs.Answer.{difference_of, counts_of}
 use Rattle.past.specs.declared.state.History.{History}
-use Rattle.past.specs.declared.update.Update.TheVariants.{First, Unchanged, Changed, Refused}
 use Rattle.past.specs.declared.update.Updated.{Updated}
 use Rattle.past.specs.Store.{total, joined, held_snapshot, held_deltas, holding_of}
 use Rattle.payload.specs.Written.{written_over}
 use Rattle.past.specs.WellFormed.{well_formed}
+use Rattle.delta.specs.Admission.{Admitted}
+use Rattle.past.specs.declared.update.Update.TheVariants as outcome
 
 -- what an update does: it is refused, is the first, changes nothing, or adds a delta
 pub data Step : Type 0 where
@@ -45,8 +44,8 @@ later_step h d new snapshots deltas =
 
 -- 7, then 10, 1, 12 and 2 of the new snapshot, then 9
 abbrev pub admitted_step : Admitted → History → Bytes → Bytes → Bytes → Step
-admitted_step (No r) h new snapshots deltas = refuse r
-admitted_step Yes h new snapshots deltas =
+admitted_step (Err r) h new snapshots deltas = refuse r
+admitted_step (Ok tt) h new snapshots deltas =
     cond h.active (later_step h (difference_of (held_snapshot h snapshots) new) new snapshots deltas) (first_step new snapshots)
 
 unfoldable pub step_for : History → Bytes → Bytes → Bytes → Step
@@ -62,10 +61,10 @@ abbrev pub next_state : History → Bytes → List Bytes → History
 next_state h new ds = holding_of h (next_of h.newest) new ds
 
 abbrev pub update_at : Step → History → Bytes → Bytes → Updated
-update_at (refuse r) h new deltas = record { answer = Refused r; history = h }
-update_at first h new deltas = record { answer = First; history = first_state h new }
-update_at unchanged h new deltas = record { answer = Unchanged; history = h }
-update_at (add d) h new deltas = record { answer = Changed (counts_of d); history = next_state h new (deltas_with h deltas d) }
+update_at (refuse r) h new deltas = record { answer = Err r; history = h }
+update_at first h new deltas = record { answer = Ok outcome.First; history = first_state h new }
+update_at unchanged h new deltas = record { answer = Ok outcome.Unchanged; history = h }
+update_at (add d) h new deltas = record { answer = Ok (outcome.Changed (counts_of d)); history = next_state h new (deltas_with h deltas d) }
 
 -- history, new snapshot, the two stores
 unfoldable pub update_of : History → Bytes → Bytes → Bytes → Updated

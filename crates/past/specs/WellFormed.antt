@@ -1,20 +1,20 @@
 -- Which histories, lent with their stores, are well formed: all others get refusal 7.
-use Rattle.std.specs.Prelude.{ℕ, List, [], ◌∷◌, Bool, true, false, cond, ◌&&◌, leb, eqb, length}
+use Rattle.std.specs.Prelude.{ℕ, List, [], ◌∷◌, Bool, true, false, cond, ◌&&◌, leb, eqb, length, Err, Ok}
 use Rattle.body.specs.declared.tag.Form.{Form}
 use Rattle.body.specs.declared.tag.Form.TheVariants.{Snapshot, Delta}
-use Rattle.field.specs.declared.verdict.Verdict.{Verdict}
-use Rattle.field.specs.declared.verdict.Verdict.TheVariants as verdict
 use Rattle.field.specs.Verdict.{verdict}
 use Rattle.payload.specs.Content.{Bytes}
 use Rattle.payload.specs.Limit.{limit}
 use Rattle.past.specs.declared.state.History.{History}
 use Rattle.past.specs.Store.{total, held_snapshot, held_lengths, held_deltas}
+use Rattle.field.specs.declared.verdict.Flaw.TheVariants as flaw
+use Rattle.field.specs.Verdict.{Verdict}
 
 abbrev pub is_fine : Verdict → Bool
-is_fine verdict.Fine = true
-is_fine (verdict.Bad at) = false
-is_fine (verdict.Senseless at) = false
-is_fine (verdict.NotAbove at) = false
+is_fine (Ok tt) = true
+is_fine (Err (flaw.Bad at)) = false
+is_fine (Err (flaw.Senseless at)) = false
+is_fine (Err (flaw.NotAbove at)) = false
 
 -- a good snapshot, a good delta
 abbrev pub is_good : Form → Bytes → Bool

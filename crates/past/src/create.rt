@@ -3,13 +3,7 @@ use crate::state::History;
 use delta::refusal::Refusal;
 
 #[derive(Clone, Copy)]
-pub enum Creation {
-    Done,
-    Refused(Refusal),
-}
-
-#[derive(Clone, Copy)]
 pub struct Created {
-    pub answer: Creation,
+    pub answer: Result<(), Refusal>,
     pub history: History,
 }

@@ -4,15 +4,9 @@ use item::sink::Counts;
 use serial::{Serial, Session};
 
 #[derive(Clone, Copy)]
-pub enum Answer {
-    Refused(Refusal),
-    // The delta that was written.
-    Served(Counts),
-}
-
-#[derive(Clone, Copy)]
 pub struct Queried {
     pub session: Session,
     pub serial: Serial,
-    pub answer: Answer,
+    // The delta that was written.
+    pub answer: Result<Counts, Refusal>,
 }

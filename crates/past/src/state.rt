@@ -1,6 +1,7 @@
 // What a history holds beside its two lent stores.
 use serial::Serial;
 
+// Kept: 64 lengths and how many of them count, since C keeps the state by value.
 #[derive(Clone, Copy)]
 pub struct History {
     pub session: u64,

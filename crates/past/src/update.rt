@@ -10,11 +10,10 @@ pub enum Update {
     Unchanged,
     // The delta that was added.
     Changed(Counts),
-    Refused(Refusal),
 }
 
 #[derive(Clone, Copy)]
 pub struct Updated {
-    pub answer: Update,
+    pub answer: Result<Update, Refusal>,
     pub history: History,
 }

@@ -10,7 +10,6 @@ use Rattle.change.specs.Change.{Change, announce, withdraw, update}
 use Rattle.change.specs.Difference as change
 use Rattle.number.specs.Bytes.{AllBytes}
 use Rattle.body.specs.declared.tag.Form.TheVariants.{Delta}
-use Rattle.field.specs.declared.verdict.Verdict.TheVariants.{Fine}
 use Rattle.field.specs.Verdict.{verdict}
 use Rattle.field.specs.Cells.{cells}
 use Rattle.field.proofs.Encode.{cells_encode}
@@ -18,6 +17,7 @@ use Rattle.payload.specs.Content.{Bytes, digit, cell_for}
 use Rattle.payload.specs.Payload.{encode, changes}
 use Rattle.payload.specs.Count.{is_announced, is_withdrawn, count_tags, announced_in, withdrawn_in, announces, withdraws, sum_of}
 use Rattle.payload.proofs.Faithful.{faithful}
+use Rattle.std.specs.Prelude.{Ok}
 
 -- the last hex digit of a change's tag
 last_digit : (k d : ℕ) → (d ≡ 1) ⊎ (d ≡ 2) ⊎ (d ≡ 3) → (k * 16 + d) % 16 ≡ d
@@ -53,7 +53,7 @@ pub withdrawn_encode : (D : change.Delta Bytes Bytes) → withdrawn_in (encode D
 withdrawn_encode D = count_encode is_withdrawn withdraws agree_withdrawn D
 
 -- of a good delta
-module _ (s : Bytes) (o : AllBytes s) (e : verdict Delta s ≡ Fine) where
+module _ (s : Bytes) (o : AllBytes s) (e : verdict Delta s ≡ Ok tt) where
   pub announced_changes : announced_in s ≡ sum_of announces (changes s)
   announced_changes = ap announced_in (sym ((faithful Delta).bytes_back s o e)) ∙ announced_encode (changes s)
 

@@ -5,7 +5,7 @@ use mathlib.Core.List.{[], List, ◌∷◌, ◌++◌, map}
 use native.Mathlib.Omega.{arith}
 use native.Mathlib.Decide.{dec_le}
 use lib.ListN.{length, get_or, get_or-append, get_or-eq_default}
-use Rattle.order.specs.declared.Ordering.TheVariants.{Less}
+use Rattle.std.specs.declared.cmp.Ordering.TheVariants.{Less}
 use Rattle.order.specs.Comparison.{bytes}
 use Rattle.order.specs.Map.{Item, All, Below, Sorted}
 use Rattle.change.specs.Change.{Change}
@@ -13,7 +13,6 @@ use Rattle.number.specs.Bytes.{AllBytes}
 use Rattle.body.specs.declared.tag.Form.{Form}
 use Rattle.body.specs.declared.tag.Form.TheVariants.{Snapshot, Delta}
 use Rattle.body.specs.Tag.{kind_of}
-use Rattle.field.specs.declared.verdict.Verdict.TheVariants.{Fine}
 use Rattle.field.specs.Key.{key_of}
 use Rattle.field.specs.Head.{front, whole}
 use Rattle.field.specs.Verdict.{verdict}
@@ -27,6 +26,7 @@ use Rattle.payload.specs.Valid.{ValidValue, ValidChange, Valid, IsMap, origin, r
 use Rattle.payload.specs.Payload.{entries, encode}
 use Rattle.payload.proofs.Back.{says_valid, says_back}
 use Rattle.payload.proofs.Forth.{Good, good}
+use Rattle.std.specs.Prelude.{Ok}
 
 -- the body of a field of bytes is of bytes
 pub body_bytes : (s : Bytes) (tag : ℕ) (b rest : Bytes) → AllBytes s → s ≡ field tag b ++ rest → AllBytes b
@@ -112,9 +112,9 @@ module _ (form : Form) where
 
 -- bytes and maps are one: reading good bytes gives a map, whose bytes they are; writing a map gives good bytes, which say it
 pub record Faithful (form : Form) : Type 0 where
-  pub map_of : (s : Bytes) → verdict form s ≡ Fine → IsMap form (entries form s)
-  pub bytes_back : (s : Bytes) → AllBytes s → verdict form s ≡ Fine → encode form (entries form s) ≡ s
-  pub good_bytes : (xs : List (Item Bytes (Content form))) → IsMap form xs → verdict form (encode form xs) ≡ Fine
+  pub map_of : (s : Bytes) → verdict form s ≡ Ok tt → IsMap form (entries form s)
+  pub bytes_back : (s : Bytes) → AllBytes s → verdict form s ≡ Ok tt → encode form (entries form s) ≡ s
+  pub good_bytes : (xs : List (Item Bytes (Content form))) → IsMap form xs → verdict form (encode form xs) ≡ Ok tt
   pub map_back : (xs : List (Item Bytes (Content form))) → IsMap form xs → entries form (encode form xs) ≡ xs
 
 pub faithful : (form : Form) → Faithful form
@@ -128,6 +128,6 @@ faithful form =
     }
 
 -- two good runs that say the same are the same bytes
-pub one_form : (form : Form) (s t : Bytes) → AllBytes s → AllBytes t → verdict form s ≡ Fine → verdict form t ≡ Fine →
+pub one_form : (form : Form) (s t : Bytes) → AllBytes s → AllBytes t → verdict form s ≡ Ok tt → verdict form t ≡ Ok tt →
     entries form s ≡ entries form t → s ≡ t
 one_form form s t o p e f h = sym ((faithful form).bytes_back s o e) ∙ ap (encode form) h ∙ (faithful form).bytes_back t p f

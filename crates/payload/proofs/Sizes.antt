@@ -4,8 +4,8 @@ use mathlib.Core.Path.{◌≡◌, refl, ap}
 use mathlib.Core.List.{[], List, ◌∷◌}
 use native.Mathlib.Omega.{arith}
 use lib.ListN.{length, drop, length-append}
-use Rattle.order.specs.declared.Ordering.{Ordering}
-use Rattle.order.specs.declared.Ordering.TheVariants.{Less, Equal, Greater}
+use Rattle.std.specs.declared.cmp.Ordering.{Ordering}
+use Rattle.std.specs.declared.cmp.Ordering.TheVariants.{Less, Equal, Greater}
 use Rattle.order.specs.Comparison.{bytes}
 use Rattle.order.specs.Map.{Item}
 use Rattle.order.specs.Walk.{emit}

@@ -12,13 +12,6 @@ use message::version::{Version, end_length};
 use serial::timing::Timing;
 use serial::{Serial, Session};
 
-// A number of four bytes as a wider one.
-fn long(x: u32) -> usize
-    ensures { (result ≡ x) × (result < 2 ^ 32) }
-{
-    x as usize
-}
-
 // The header of a message that names a session.
 fn put_session(version: Version, kind: u8, session: Session, size: usize, out: &mut [u8], i: usize)
     requires { (i + 8 ≤ length out.old) × (size < 4294967296) }
@@ -43,7 +36,7 @@ fn put_serial(
     ensures { out.new ≡ sets out.old i (session_head version kind session size ++ four_bytes serial.0) }
 {
     put_session(version, kind, session, size, out, i);
-    store_four(out, i + 8, long(serial.0));
+    store_four(out, i + 8, serial.0 as usize);
 }
 
 // Cache Response.
@@ -75,9 +68,9 @@ fn put_three(a: u32, b: u32, c: u32, out: &mut [u8], i: usize)
     requires { i + 12 ≤ length out.old }
     ensures { out.new ≡ sets out.old i (four_bytes a ++ (four_bytes b ++ four_bytes c)) }
 {
-    store_four(out, i, long(a));
-    store_four(out, i + 4, long(b));
-    store_four(out, i + 8, long(c));
+    store_four(out, i, a as usize);
+    store_four(out, i + 4, b as usize);
+    store_four(out, i + 8, c as usize);
 }
 
 // The times of an End of Data: RFC 6810 has none.

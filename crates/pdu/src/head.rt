@@ -5,15 +5,14 @@ ghost use Rattle.message.specs.Message.{header};
 
 use item::copy::store_four;
 use message::version::{Version, number_of};
-use number::wide;
 
 // Four bytes at i: compiled to one store.
 pub(crate) fn put_quad(out: &mut [u8], i: usize, a: u8, b: u8, c: u8, d: u8)
     requires { i + 4 ≤ length out.old }
     ensures { out.new ≡ sets out.old i (a ∷ b ∷ c ∷ d ∷ []) }
 {
-    let high = wide(a) * 16777216 + wide(b) * 65536;
-    store_four(out, i, high + wide(c) * 256 + wide(d));
+    let high = usize::from(a) * 16777216 + usize::from(b) * 65536;
+    store_four(out, i, high + usize::from(c) * 256 + usize::from(d));
 }
 
 // Version, type, two bytes and the length of the whole message at i.

@@ -20,9 +20,8 @@ pub fn flags_of(act: Act) -> u8
     ensures { result ≡ flags_place act }
 {
     match act {
-        Act::Announce(_) => 1,
+        Act::Announce(_) | Act::Update(_, _) => 1,
         Act::Withdraw(_) => 0,
-        Act::Update(_, _) => 1,
     }
 }
 
@@ -63,6 +62,7 @@ fn put_address(s: &[u8], from: usize, out: &mut [u8], i: usize)
 }
 
 // IPv6 Prefix.
+// Kept: as `put_ipv4`, of another length.
 pub fn put_ipv6(version: Version, s: &[u8], from: usize, flags: u8, out: &mut [u8], i: usize)
     requires { Lies23 s.now from × (i + 32 ≤ length out.old) }
     ensures { out.new ≡ sets out.old i (pdu version (ipv6_of flags (part s.now from (from + 23)))) }

@@ -9,7 +9,6 @@ use Rattle.number.specs.Bytes.{part}
 use Rattle.body.specs.declared.tag.Form.TheVariants.{Delta}
 use Rattle.field.specs.declared.head.Field.{Field}
 use Rattle.field.specs.declared.head.Field.TheVariants.{End, Cut, Whole}
-use Rattle.field.specs.declared.verdict.Verdict.TheVariants.{Fine}
 use Rattle.field.specs.Verdict.{verdict}
 use Rattle.field.specs.Head.{field_at}
 use Rattle.field.specs.Cells.{Cell, cells}
@@ -26,6 +25,7 @@ use Rattle.reader.specs.declared.DeltaReader.{DeltaReader}
 use Rattle.reader.specs.Step.{start}
 use Rattle.reader.specs.Stepping.{answers, steps, wholes}
 use Rattle.reader.specs.Reading.{said, size, ReadsAll}
+use Rattle.std.specs.Prelude.{Ok}
 
 none_left : (cs : List Cell) → length cs ≤ 0 → cs ≡ []
 none_left [] h = refl
@@ -90,7 +90,7 @@ module _ (d : Bor Bytes) where
   stays zero = refl
   stays (suc n) = rw (← field_end s (length s) (omega arith)) (ap (λ (fs : List Field). End ∷ fs) (stays n))
 
-  module _ (good : verdict Delta s ≡ Fine) where
+  module _ (good : verdict Delta s ≡ Ok tt) where
     sized : size d ≡ length (cells s)
     unfolding entries
     sized = length-map (cells s) (entry_of Delta)

@@ -1,10 +1,11 @@
 // How many items a delta announces and withdraws: a reader is made, and stepped to the end.
 ghost use Rattle.std.specs.Prelude.{◌≡◌};
 ghost use Rattle.reader.specs.Count.{tally_of};
-ghost use Rattle.reader.specs.Counting.{is_over, announces_tag, withdraws_tag, Countable, plus_field};
+ghost use Rattle.reader.specs.Counting.{Countable, plus_tag};
 
-use crate::{new, next};
+use crate::DeltaReader;
 use field::head::Field;
+use payload::{announces, withdraws};
 
 #[derive(Clone, Copy)]
 pub struct Tally {
@@ -12,53 +13,14 @@ pub struct Tally {
     pub withdrawn: usize,
 }
 
-// The end, or a field that is cut short: no field follows.
-fn is_over(field: Field) -> bool
-    ensures { result ≡ is_over field }
-{
-    match field {
-        Field::End => true,
-        Field::Cut => true,
-        Field::Whole { tag, from, to } => false,
-    }
-}
-
-// A tag ending in 1 or 3 announces.
-fn announces(tag: u8) -> usize
-    ensures { result ≡ announces_tag tag }
-{
-    let digit = tag % 16;
-    if digit == 1 {
-        return 1;
-    }
-    if digit == 3 {
-        return 1;
-    }
-    0
-}
-
-// A tag ending in 2 withdraws.
-fn withdraws(tag: u8) -> usize
-    ensures { result ≡ withdraws_tag tag }
-{
-    if tag % 16 == 2 {
-        return 1;
-    }
-    0
-}
-
-// The counts with one field more.
-fn plus(tally: Tally, field: Field) -> Tally
+// The counts with one field more, of this tag.
+fn plus(tally: Tally, tag: u8) -> Tally
     requires { Countable tally }
-    ensures { result ≡ plus_field tally field }
+    ensures { result ≡ plus_tag tally tag }
 {
-    match field {
-        Field::End => tally,
-        Field::Cut => tally,
-        Field::Whole { tag, from, to } => Tally {
-            announced: tally.announced + announces(tag),
-            withdrawn: tally.withdrawn + withdraws(tag),
-        },
+    Tally {
+        announced: tally.announced + usize::from(announces(tag)),
+        withdrawn: tally.withdrawn + usize::from(withdraws(tag)),
     }
 }
 
@@ -66,17 +28,13 @@ fn plus(tally: Tally, field: Field) -> Tally
 pub fn count(delta: &[u8]) -> Tally
     ensures { result ≡ tally_of delta.now }
 {
-    let mut reader = new(delta);
+    let mut reader = DeltaReader::new(delta);
     let mut tally = Tally {
         announced: 0,
         withdrawn: 0,
     };
-    loop {
-        let field = next(&mut reader);
-        if is_over(field) {
-            break;
-        }
-        tally = plus(tally, field);
+    while let Field::Whole { tag, .. } = reader.next() {
+        tally = plus(tally, tag);
     }
     tally
 }

@@ -8,36 +8,37 @@ use field::head::{Field, field_at};
 
 pub mod count;
 
+// Where a reader that found a field stands next: behind a whole one, else where it stood.
+fn behind_of(field: Field, at: usize) -> usize
+    ensures { result ≡ behind field at }
+{
+    match field {
+        Field::End | Field::Cut => at,
+        Field::Whole { tag, from, to } => to,
+    }
+}
+
 #[derive(Drop)]
 pub struct DeltaReader<'a> {
     pub delta: &'a [u8],
     pub at: usize,
 }
 
-// A reader at the start of a delta.
-pub fn new<'a>(delta: &'a [u8]) -> DeltaReader<'a>
-    ensures { result ≡ start delta.entry }
-{
-    DeltaReader { delta, at: 0 }
-}
-
-// Where a reader that found a field stands next: behind a whole one, else where it stood.
-fn behind_of(field: Field, at: usize) -> usize
-    ensures { result ≡ behind field at }
-{
-    match field {
-        Field::End => at,
-        Field::Cut => at,
-        Field::Whole { tag, from, to } => to,
+impl<'a> DeltaReader<'a> {
+    // A reader at the start of a delta.
+    pub fn new(delta: &'a [u8]) -> DeltaReader<'a>
+        ensures { result ≡ start delta.entry }
+    {
+        DeltaReader { delta, at: 0 }
     }
-}
 
-// The field where the reader stands. It moves behind a whole one, and stays at the end and at one that is cut short.
-pub fn next<'s, 'a>(reader: &'s mut DeltaReader<'a>) -> Field
-    ensures { (result ≡ found reader.old) × (reader.new ≡ stepped reader.old) }
-{
-    let at = reader.at;
-    let field = field_at(reader.delta, at);
-    reader.at = behind_of(field, at);
-    field
+    // The field where the reader stands. It moves behind a whole one, and stays at the end and at one that is cut short.
+    pub fn next(&mut self) -> Field
+        ensures { (result ≡ found self.old) × (self.new ≡ stepped self.old) }
+    {
+        let at = self.at;
+        let field = field_at(self.delta, at);
+        self.at = behind_of(field, at);
+        field
+    }
 }

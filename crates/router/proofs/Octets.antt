@@ -3,8 +3,8 @@ use mathlib.Core.Path.{◌≡◌, refl}
 use mathlib.Core.List.{List, [], ◌∷◌}
 use mathlib.Core.Option.{Option, none, some}
 use native.Mathlib.Omega.{arith}
-use Rattle.order.specs.declared.Ordering.{Ordering}
-use Rattle.order.specs.declared.Ordering.TheVariants.{Less, Equal, Greater}
+use Rattle.std.specs.declared.cmp.Ordering.{Ordering}
+use Rattle.std.specs.declared.cmp.Ordering.TheVariants.{Less, Equal, Greater}
 use Rattle.order.specs.Comparison.{bytes}
 use Rattle.order.specs.Map.{Item, All}
 use Rattle.order.specs.Walk.{emit, walk}
@@ -15,7 +15,6 @@ use Rattle.number.specs.Bytes.{AllBytes}
 use Rattle.body.specs.declared.tag.Form.{Form}
 use Rattle.body.specs.declared.tag.Form.TheVariants as form
 use Rattle.body.specs.Tag.{kind_of}
-use Rattle.field.specs.declared.verdict.Verdict.TheVariants.{Fine}
 use Rattle.field.specs.Verdict.{verdict}
 use Rattle.field.specs.Run.{Run, done, more}
 use Rattle.field.proofs.Encode.{field_front, rest_bytes}
@@ -24,6 +23,7 @@ use Rattle.payload.specs.Content.{Bytes, Content}
 use Rattle.payload.specs.Payload.{entries, items}
 use Rattle.payload.proofs.Faithful.{body_bytes, entries_end, entries_more}
 use Rattle.item.proofs.Heres.{low_kind, key_octets}
+use Rattle.std.specs.Prelude.{Ok}
 
 module _ (form : Form) where
   entry_bytes : {k s : Bytes} → Run form k s → AllBytes s → All (λ (x : Item Bytes (Content form)). AllBytes x.key) (entries form s)
@@ -34,7 +34,7 @@ module _ (form : Form) where
       rw (entries_more form s tag b rest e)
       (key_octets (kind_of form tag) b (omega (arith, low_kind form tag)) (body_bytes s tag b rest o f), entry_bytes r (rest_bytes s tag b rest o f))
 
-pub item_bytes : (s : Bytes) → AllBytes s → verdict form.Snapshot s ≡ Fine → All (λ (x : Item Bytes Bytes). AllBytes x.key) (items s)
+pub item_bytes : (s : Bytes) → AllBytes s → verdict form.Snapshot s ≡ Ok tt → All (λ (x : Item Bytes Bytes). AllBytes x.key) (items s)
 item_bytes s o f = entry_bytes form.Snapshot (good_start_lem form.Snapshot s f).run o
 
 -- a walk has no keys but those of its sides

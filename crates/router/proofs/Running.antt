@@ -41,7 +41,6 @@ use Rattle.delta.specs.Answer.{difference_of, counts_of}
 use Rattle.delta.specs.Demand.{GoodSnapshot}
 use Rattle.delta.proofs.Differences.{empty_good, good_map}
 use Rattle.past.specs.declared.state.History.{History}
-use Rattle.past.specs.declared.query.Answer.TheVariants.{Served}
 use Rattle.past.specs.Store.{held_deltas}
 use Rattle.past.specs.WellFormed.{well_formed}
 use Rattle.past.specs.Query.{is_served, is_session, merged_last, answer_of, query_of, query_out}
@@ -55,7 +54,6 @@ use Rattle.merged.specs.Place.{IsFine}
 use Rattle.history.proofs.Asking.{formed_stored}
 use Rattle.wire.specs.declared.tally.Tally.{Tally}
 use Rattle.wire.specs.declared.frame.Frame.{Frame}
-use Rattle.wire.specs.declared.sent.Reply.TheVariants.{Data, Reset, Report}
 use Rattle.wire.specs.Answer.{Plan, refuse, aside, refused_with, report_bytes, frame_of, answer_bytes, tally_of, sent_at, out_at, data_plan, reset_plan, report_plan, changes_since, query_plan, all_new, full_plan}
 use Rattle.router.specs.Send.{TimesFit}
 use Rattle.router.specs.Heard.{Spoken, told_from}
@@ -63,6 +61,8 @@ use Rattle.router.specs.Promise.{LeadsOn, Home, query_in, full_in, written, Wire
 use Rattle.router.proofs.Heard.{hear_answer, told_items_lem}
 use Rattle.router.proofs.Routers.{router_takes, spoken_all}
 use Rattle.router.proofs.Octets.{item_bytes, diff_bytes}
+use Rattle.std.specs.Prelude.{Ok}
+use Rattle.wire.specs.declared.sent.Reply.TheVariants as reply
 
 -- ---- which plan writes data, and what it has written then
 
@@ -70,32 +70,32 @@ module _ (v : Version) (f : Frame) (D : change.Delta Bytes Bytes) (out : Bytes) 
   abbrev whole : Bytes
   whole = answer_bytes v f D
 
-  data_written : (sent_at (data_plan v f D) (length out)).reply ≡ Data t → take t.len (out_at (data_plan v f D) out) ≡ whole
+  data_written : (sent_at (data_plan v f D) (length out)).reply ≡ Ok (reply.Data t) → take t.len (out_at (data_plan v f D) out) ≡ whole
   unfolding sent_at out_at data_plan
   data_written = go (leb (length whole) (length out))
     where
-      go : (b : Bool) → (cond b (record { session = f.session; serial = f.serial; reply = Data (tally_of v whole D) }) (refused_with NoRoom)).reply ≡ Data t →
+      go : (b : Bool) → (cond b (record { session = f.session; serial = f.serial; reply = Ok (reply.Data (tally_of v whole D)) }) (refused_with NoRoom)).reply ≡ Ok (reply.Data t) →
           take t.len (cond b (written_over whole out) out) ≡ whole
       go true h = let e : tally_of v whole D ≡ t = cc in take_at whole (drop (length whole) out) t.len (ap (λ (x : Tally). x.len) e)
       go false h = never cc
 
-reset_no : {A : Type 0} (v : Version) (n : ℕ) (t : Tally) → (sent_at (reset_plan v) n).reply ≡ Data t → A
+reset_no : {A : Type 0} (v : Version) (n : ℕ) (t : Tally) → (sent_at (reset_plan v) n).reply ≡ Ok (reply.Data t) → A
 unfolding sent_at reset_plan
 reset_no v n t = go (leb (length (pdu v cache_reset)) n)
   where
-    go : {A : Type 0} (b : Bool) → (cond b (aside (Reset (length (pdu v cache_reset)))) (refused_with NoRoom)).reply ≡ Data t → A
+    go : {A : Type 0} (b : Bool) → (cond b (aside (Ok (reply.Reset (length (pdu v cache_reset))))) (refused_with NoRoom)).reply ≡ Ok (reply.Data t) → A
     go true h = never cc
     go false h = never cc
 
-report_no : {A : Type 0} (v : Version) (s : Session) (q : Serial) (n : ℕ) (t : Tally) → (sent_at (report_plan v s q) n).reply ≡ Data t → A
+report_no : {A : Type 0} (v : Version) (s : Session) (q : Serial) (n : ℕ) (t : Tally) → (sent_at (report_plan v s q) n).reply ≡ Ok (reply.Data t) → A
 unfolding sent_at report_plan
 report_no v s q n t = go (leb (length (report_bytes v s q)) n)
   where
-    go : {A : Type 0} (b : Bool) → (cond b (aside (Report (length (report_bytes v s q)))) (refused_with NoRoom)).reply ≡ Data t → A
+    go : {A : Type 0} (b : Bool) → (cond b (aside (Ok (reply.Report (length (report_bytes v s q))))) (refused_with NoRoom)).reply ≡ Ok (reply.Data t) → A
     go true h = never cc
     go false h = never cc
 
-refuse_no : {A : Type 0} (r : Refusal) (n : ℕ) (t : Tally) → (sent_at (refuse r) n).reply ≡ Data t → A
+refuse_no : {A : Type 0} (r : Refusal) (n : ℕ) (t : Tally) → (sent_at (refuse r) n).reply ≡ Ok (reply.Data t) → A
 unfolding sent_at
 refuse_no r n t h = never cc
 
@@ -107,7 +107,7 @@ pub record Passed (v : Version) (h : History) (s : Session) (asked : Serial) (ti
   pub wrote : take t.len (out_at (query_plan v h s asked times snapshots deltas) out) ≡ answer_bytes v (frame_of h times) (changes_since h asked deltas)
 
 query_passed : (v : Version) (h : History) (s : Session) (asked : Serial) (times : Timing) (snapshots deltas out : Bytes) (t : Tally) →
-    (sent_at (query_plan v h s asked times snapshots deltas) (length out)).reply ≡ Data t → Passed v h s asked times snapshots deltas out t
+    (sent_at (query_plan v h s asked times snapshots deltas) (length out)).reply ≡ Ok (reply.Data t) → Passed v h s asked times snapshots deltas out t
 unfolding query_plan
 query_passed v h s asked times snapshots deltas out t =
     go (well_formed h snapshots deltas) refl (is_session h s) refl (is_served h.start h.n asked (distance_of h.newest asked)) refl
@@ -116,7 +116,7 @@ query_passed v h s asked times snapshots deltas out t =
     plan a b c = cond a (cond b (cond c (data_plan v (frame_of h times) (changes_since h asked deltas)) (reset_plan v)) (report_plan v s asked)) (refuse IllFormed)
 
     go : (a : Bool) → well_formed h snapshots deltas ≡ a → (b : Bool) → is_session h s ≡ b → (c : Bool) → is_served h.start h.n asked (distance_of h.newest asked) ≡ c →
-        (sent_at (plan a b c) (length out)).reply ≡ Data t → Passed v h s asked times snapshots deltas out t
+        (sent_at (plan a b c) (length out)).reply ≡ Ok (reply.Data t) → Passed v h s asked times snapshots deltas out t
     go true e true f true g q = record {
       formed = e;
       session = f;
@@ -215,7 +215,7 @@ module _ (v : Version) (session keep : ℕ) (start : Serial) (r : Reached) (p : 
     abbrev ans : Bytes
     ans = answer_of h asked w.deltas
 
-    served : (queried_in w s asked (length ans)).answer ≡ Served (counts_of ans)
+    served : (queried_in w s asked (length ans)).answer ≡ Ok (counts_of ans)
     unfolding query_of
     served = let l : leb (length ans) (length ans) ≡ true = le-leb (length ans) (length ans) (omega arith) in rw (f, u, g, l)
 
@@ -225,7 +225,7 @@ module _ (v : Version) (session keep : ℕ) (start : Serial) (r : Reached) (p : 
         let l : leb (length ans) (length ans) ≡ true = le-leb (length ans) (length ans) (omega arith) in
         rw (f, u, g, l) (take_at ans (drop (length ans) ans) (length ans) refl)
 
-  query_home : (s : Session) (asked : Serial) (out : Bytes) (t : Tally) → asked.0 < 2 ^ 32 → ¬ (r.given ≡ []) → (sent_at (query_in v w s asked times) (length out)).reply ≡ Data t →
+  query_home : (s : Session) (asked : Serial) (out : Bytes) (t : Tally) → asked.0 < 2 ^ 32 → ¬ (r.given ≡ []) → (sent_at (query_in v w s asked times) (length out)).reply ≡ Ok (reply.Data t) →
       Home v session start r.given (current w) asked times (written (query_in v w s asked times) out t)
   query_home s asked out t b n q =
       let x = query_passed v h s asked times w.snapshots w.deltas out t q in
@@ -238,17 +238,17 @@ module _ (v : Version) (session keep : ℕ) (start : Serial) (r : Reached) (p : 
       x.wrote ∙ bytes_are (changes_since h asked w.deltas) ∙ ap (λ (D : change.Delta Bytes Bytes). pdus v (answer v (session_of session).0 F.0 (timing_of times) D)) d in
       record { base = l.base; most_recent = l.most_recent; leads = rw e (leads_on v session F times F-bound l.base (current w) gb gn) }
 
-  full_wrote : (out : Bytes) (t : Tally) → (sent_at (full_in v w times) (length out)).reply ≡ Data t →
+  full_wrote : (out : Bytes) (t : Tally) → (sent_at (full_in v w times) (length out)).reply ≡ Ok (reply.Data t) →
       written (full_in v w times) out t ≡ answer_bytes v (frame_of h times) (all_new (current w))
   unfolding full_plan
   full_wrote out t = go (well_formed h w.snapshots w.deltas)
     where
-      go : (a : Bool) → (sent_at (cond a (data_plan v (frame_of h times) (all_new (current w))) (refuse IllFormed)) (length out)).reply ≡ Data t →
+      go : (a : Bool) → (sent_at (cond a (data_plan v (frame_of h times) (all_new (current w))) (refuse IllFormed)) (length out)).reply ≡ Ok (reply.Data t) →
           take t.len (out_at (cond a (data_plan v (frame_of h times) (all_new (current w))) (refuse IllFormed)) out) ≡ answer_bytes v (frame_of h times) (all_new (current w))
       go true q = data_written v (frame_of h times) (all_new (current w)) out t q
       go false q = refuse_no IllFormed (length out) t q
 
-  full_home : (out : Bytes) (t : Tally) → ¬ (r.given ≡ []) → (sent_at (full_in v w times) (length out)).reply ≡ Data t →
+  full_home : (out : Bytes) (t : Tally) → ¬ (r.given ≡ []) → (sent_at (full_in v w times) (length out)).reply ≡ Ok (reply.Data t) →
       LeadsOn v session F times [] (current w) (written (full_in v w times) out t)
   full_home out t n q =
       let z : items [] ≡ [] = entries_end Snapshot in

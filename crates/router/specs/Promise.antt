@@ -1,5 +1,5 @@
 -- What a router gets that reads the answers of a history, over every run of calls: demand 3 carried to the wire.
-use Rattle.std.specs.Prelude.{ℕ, ◌^◌, ◌<◌, ◌≡◌, List, [], map, length, take}
+use Rattle.std.specs.Prelude.{ℕ, ◌^◌, ◌<◌, ◌≡◌, List, [], map, length, take, Ok}
 use Rattle.std.proofs.Math.Option.{some}
 use Rattle.order.specs.Comparison.{bytes}
 use Rattle.order.specs.Map.{All}
@@ -17,13 +17,12 @@ use Rattle.message.specs.Say.{spoken}
 use Rattle.message.specs.Hear.{Told, ended, hear}
 use Rattle.message.specs.Take as router
 use Rattle.message.specs.Take.{all, as_item}
-use Rattle.past.specs.declared.create.Creation.TheVariants.{Done}
 use Rattle.past.specs.Create.{create_of}
 use Rattle.past.specs.Run.{World, Call, Reached, start_of, run_of, carried}
 use Rattle.past.specs.Promise.{OfBytes, serial_in, current}
 use Rattle.wire.specs.declared.tally.Tally.{Tally}
-use Rattle.wire.specs.declared.sent.Reply.TheVariants.{Data}
 use Rattle.wire.specs.Answer.{Plan, sent_at, out_at, query_plan, full_plan}
+use Rattle.wire.specs.declared.sent.Reply.TheVariants as reply
 
 -- what is read: these items as far as the version speaks of their kinds, in order, each once; then the session, the serial and what is told of the times
 pub record HeardAs (v : Version) (session : ℕ) (serial : Serial) (times : Timing) (D : Delta Bytes Bytes) (messages : Bytes) : Type 0 where
@@ -56,13 +55,13 @@ written p out t = take t.len (out_at p out)
 pub record Wire (v : Version) (session : ℕ) (start : Serial) (r : Reached) : Type 0 where
   -- the messages of a served query lead a router from the snapshot that most recently carried its serial to the current one
   pub query : (s : Session) (asked : Serial) (times : Timing) (out : Bytes) (t : Tally) → asked.0 < 2 ^ 32 → ¬ (r.given ≡ []) →
-      (sent_at (query_in v r.world s asked times) (length out)).reply ≡ Data t →
+      (sent_at (query_in v r.world s asked times) (length out)).reply ≡ Ok (reply.Data t) →
       Home v session start r.given (current r.world) asked times (written (query_in v r.world s asked times) out t)
   -- those of a full answer lead a router that holds nothing to the current one
-  pub full : (times : Timing) (out : Bytes) (t : Tally) → ¬ (r.given ≡ []) → (sent_at (full_in v r.world times) (length out)).reply ≡ Data t →
+  pub full : (times : Timing) (out : Bytes) (t : Tally) → ¬ (r.given ≡ []) → (sent_at (full_in v r.world times) (length out)).reply ≡ Ok (reply.Data t) →
       LeadsOn v session (serial_in start r.given) times [] (current r.world) (written (full_in v r.world times) out t)
 
 -- of every run of calls from a creation that is done, in any version
 abbrev pub EveryWire : Type 0
-EveryWire = (v : Version) (session keep : ℕ) (start : Serial) (snapshots deltas : Bytes) → start.0 < 2 ^ 32 → (create_of session keep start snapshots deltas).answer ≡ Done →
+EveryWire = (v : Version) (session keep : ℕ) (start : Serial) (snapshots deltas : Bytes) → start.0 < 2 ^ 32 → (create_of session keep start snapshots deltas).answer ≡ Ok tt →
     (calls : List Call) → All OfBytes calls → Wire v session start (run_of (start_of session keep start snapshots deltas) calls)

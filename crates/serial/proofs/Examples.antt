@@ -1,11 +1,12 @@
 -- Worked examples, by computation.
 use Rattle.std.proofs.Common.{◌≡◌, ℕ, refl}
 use Rattle.serial.specs.declared.Serial.{Serial}
-use Rattle.serial.specs.declared.order.Standing.TheVariants.{Before, After, Unordered}
 use Rattle.serial.specs.declared.timing.Timing.{Timing}
 use Rattle.serial.specs.Serial.{next_of, distance_of, session_of}
 use Rattle.serial.specs.Rfc1982.{first_true, standing}
 use Rattle.serial.specs.Timing.{timing_of}
+use Rattle.std.specs.declared.cmp.Ordering.TheVariants as ordering
+use Rattle.std.specs.Prelude.{None, Some}
 
 abbrev serial : ℕ → Serial
 serial n = record { 0 = n }
@@ -30,17 +31,17 @@ pub session_cut : ((session_of 65535).0 ≡ 65535) × ((session_of 65536).0 ≡ 
 session_cut = (refl, refl, refl)
 
 -- across the wrap, 0 is after 4,294,967,295
-pub after_wrap : (standing (serial 0) (serial 4294967295) ≡ After) × (standing (serial 4294967295) (serial 0) ≡ Before)
+pub after_wrap : (standing (serial 0) (serial 4294967295) ≡ Some ordering.Greater) × (standing (serial 4294967295) (serial 0) ≡ Some ordering.Less)
 unfolding standing first_true
 after_wrap = (refl, refl)
 
 -- around half the range: 2^31 - 1 steps on is after, 2^31 is unordered either way, 2^31 + 1 is before
-pub around_half : (standing (serial 2147483648) (serial 1) ≡ After) × (standing (serial 2147483649) (serial 1) ≡ Unordered) × (standing (serial 1) (serial 2147483649) ≡ Unordered) × (standing (serial 2147483650) (serial 1) ≡ Before)
+pub around_half : (standing (serial 2147483648) (serial 1) ≡ Some ordering.Greater) × (standing (serial 2147483649) (serial 1) ≡ None) × (standing (serial 1) (serial 2147483649) ≡ None) × (standing (serial 2147483650) (serial 1) ≡ Some ordering.Less)
 unfolding standing first_true
 around_half = (refl, refl, refl, refl)
 
 -- the order is not transitive: 0 is before 2,147,483,647, which is before 4,294,967,294, which is before 0
-pub not_transitive : (standing (serial 0) (serial 2147483647) ≡ Before) × (standing (serial 2147483647) (serial 4294967294) ≡ Before) × (standing (serial 4294967294) (serial 0) ≡ Before)
+pub not_transitive : (standing (serial 0) (serial 2147483647) ≡ Some ordering.Less) × (standing (serial 2147483647) (serial 4294967294) ≡ Some ordering.Less) × (standing (serial 4294967294) (serial 0) ≡ Some ordering.Less)
 unfolding standing first_true
 not_transitive = (refl, refl, refl)
 

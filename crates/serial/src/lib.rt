@@ -9,17 +9,17 @@ pub mod timing;
 
 // The serial number of a snapshot or of a delta's target.
 #[repr(C)]
-#[derive(Clone, Copy)]
+#[derive(Clone, Copy, PartialEq, Eq)]
 pub struct Serial(pub u32);
 
 // The 16-bit session that a query brings and an answer names.
 #[repr(C)]
-#[derive(Clone, Copy)]
+#[derive(Clone, Copy, PartialEq, Eq)]
 pub struct Session(pub u16);
 
 // An AS number.
 #[repr(C)]
-#[derive(Clone, Copy)]
+#[derive(Clone, Copy, PartialEq, Eq)]
 pub struct Asn(pub u32);
 
 // The serial after: after 4,294,967,295 comes 0.

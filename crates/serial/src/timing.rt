@@ -1,6 +1,6 @@
 // The timing values of an answer, in seconds.
 ghost use Rattle.std.specs.Prelude.{◌≡◌, ◌<◌, ◌≤◌, max};
-ghost use Rattle.serial.specs.Timing.{clamp_of, expire_of, timing_of};
+ghost use Rattle.serial.specs.Timing.{expire_of, timing_of};
 
 #[repr(C)]
 #[derive(Clone, Copy)]
@@ -22,35 +22,12 @@ const EXPIRE_LOW: u32 = 600;
 
 const EXPIRE_HIGH: u32 = 172800;
 
-// `x`, or the bound that it is past.
-fn within(low: u32, high: u32, x: u32) -> u32
-    requires { low ≤ high }
-    ensures { result ≡ clamp_of low high x }
-{
-    if x < low {
-        return low;
-    }
-    if high < x {
-        return high;
-    }
-    x
-}
-
-fn larger(a: u32, b: u32) -> u32
-    ensures { result ≡ max a b }
-{
-    if a < b {
-        return b;
-    }
-    a
-}
-
 // `expire`, or one more than the larger of the two others if it is not larger than both.
 fn above(refresh: u32, retry: u32, expire: u32) -> u32
     requires { max refresh retry < 4294967295 }
     ensures { result ≡ expire_of refresh retry expire }
 {
-    let larger = larger(refresh, retry);
+    let larger = refresh.max(retry);
     if expire <= larger {
         return larger + 1;
     }
@@ -61,11 +38,11 @@ fn above(refresh: u32, retry: u32, expire: u32) -> u32
 pub fn clamp(t: Timing) -> Timing
     ensures { result ≡ timing_of t }
 {
-    let refresh = within(REFRESH_LOW, REFRESH_HIGH, t.refresh);
-    let retry = within(RETRY_LOW, RETRY_HIGH, t.retry);
+    let refresh = t.refresh.clamp(REFRESH_LOW, REFRESH_HIGH);
+    let retry = t.retry.clamp(RETRY_LOW, RETRY_HIGH);
     Timing {
         refresh,
         retry,
-        expire: above(refresh, retry, within(EXPIRE_LOW, EXPIRE_HIGH, t.expire)),
+        expire: above(refresh, retry, t.expire.clamp(EXPIRE_LOW, EXPIRE_HIGH)),
     }
 }

@@ -4,17 +4,17 @@
 mod path;
 mod read;
 
+use delta::refusal::Refusal;
 use listing::diff::diff_text;
-use listing::listing::Listed;
 use path::{argument, join, path_of};
 use read::read_file;
 use std::io;
 use std::io::Write;
 
 // The text that stands at the start of out.
-fn write_text(rt: &impl Print, listed: Listed, out: &[u8]) -> io::Result<()> {
+fn write_text(rt: &impl Print, listed: Result<usize, Refusal>, out: &[u8]) -> io::Result<()> {
     // Never refused: out has room for the longest text.
-    let Listed::Text(len) = listed else {
+    let Ok(len) = listed else {
         return Ok(());
     };
     if len <= out.len() {

@@ -7,14 +7,15 @@ use native.Mathlib.Omega.{arith}
 use native.Mathlib.Decide.{ℕ_discrete}
 use lib.ListN.{length, get_or, take, drop, length-append, length-drop, drop_of_length-le, take-append-drop}
 use lib.Seq.{length-take-le, take_all, take_at, take-take, take-add, drop_at, drop-drop}
+use Rattle.std.specs.Ordering.{nat_cmp, ord_min}
 use Rattle.payload.specs.Content.{Bytes}
 use Rattle.heard.specs.Place.{Payload, precedes}
 use Rattle.sorting.specs.Sorted.{sorted}
-use Rattle.sorting.specs.Sort.{Held, Climbs, Ascends, Block, EndIs, Extends, Merges, RunsAre, Doubles, SortedIs, FirstSorted}
+use Rattle.sorting.specs.Sort.{Held, Climbs, Ascends, Block, Extends, Merges, RunsAre, Doubles, SortedIs, FirstSorted}
 use Rattle.sorting.proofs.Precede.{true≢false, not_above_trans}
 use Rattle.sorting.proofs.Sorting.{climbing_by, sorted_fixed, sorted_first, sorted_behind, length_sorted}
 use Rattle.sorting.proofs.Merging.{sorted_is, held_take, held_drop, held_both}
-use Rattle.sorting.proofs.Running.{sorted_twice, run_only}
+use Rattle.sorting.proofs.Running.{sorted_twice, run_only, end_inner, end_last, end_within, end_some, end_few}
 
 -- ---- ascends
 
@@ -27,9 +28,6 @@ pub ascend_start : (s : Bytes) (l : List ℕ) → Held s l → Ascending s l 1
 ascend_start s l h = record { held = h; some = omega arith; order = record { up = λ a b p q. absurd (omega arith) } }
 
 module _ (s : Bytes) (l : List ℕ) (i : ℕ) (t : Ascending s l i) where
-  pub ascend_some : 1 ≤ i
-  ascend_some = t.some
-
   pub ascend_here : i < length l → Payload s (get_or l i 0)
   ascend_here h = t.held.each i h
 
@@ -51,7 +49,7 @@ module _ (s : Bytes) (l : List ℕ) (i : ℕ) (t : Ascending s l i) where
   pub ascend_end : length l ≤ i → Ascends s l true
   ascend_end h = record { same = λ e. sorted_fixed s (climbing_by s l (λ a b p q. t.order.up a b p (omega arith))) }
 
-pub ruleset ascending = (ascend_start, ascend_some, ascend_here, ascend_last, ascend_no, ascend_again, ascend_end)
+pub ruleset ascending = (ascend_start, ascend_here, ascend_last, ascend_no, ascend_again, ascend_end)
 
 -- ---- extend: the others are sorted, and merged into the first m
 
@@ -85,7 +83,6 @@ module _ (s : Bytes) (l : List ℕ) (m : ℕ) (sp : List ℕ) (h : Extends s l m
     pub extend_merges : (sp' : List ℕ) → length sp' ≡ length sp → Merges s (take m l ++ (b ++ drop (length l - m) (drop m l))) m sp'
     extend_merges sp' f = record {
       held = subst (Held s) (sym halved) (held_both s (take m l) (sorted s (drop m l)) (held_take s l m h.held extend_start) (sorted_is s (drop m l) (sorted s (drop m l)) (held_drop s l m h.held) refl).held);
-      within = omega (arith, extend_long, h.within);
       room = omega (arith, extend_long, h.small, h.room);
       left = rw (take_at (take m l) (b ++ drop (length l - m) (drop m l)) m first) h.left;
       right = rw (drop_at (take m l) (b ++ drop (length l - m) (drop m l)) m first, behind) (sorted_twice s (drop m l));
@@ -115,16 +112,10 @@ pub block_start : (s : Bytes) (l sp m : List ℕ) → Block s l sp → RunsAre s
 block_start s l sp m h d e = record { small = omega (arith, h.small); long = refl; room = h.room; some = omega arith; are = record { held = d.held; same = refl; runs = d.runs } }
 
 module _ (s : Bytes) (l₀ l sp : List ℕ) (w : ℕ) (t : Widening s l₀ l sp w) where
-  pub block_long : length l ≡ length l₀
-  block_long = t.long
-
   pub block_end : (k : List ℕ) → RunsAre s k 7 l₀ → length l ≤ w → SortedIs s k l
   block_end k d h = record { held = t.are.held; is = sym (run_only s w t.are.runs h) ∙ t.are.same ∙ d.same }
 
   module _ (h : w < length l) where
-    pub block_some : 1 ≤ w
-    block_some = t.some
-
     pub block_small : w ≤ 448
     block_small = omega (arith, t.small)
 
@@ -140,7 +131,7 @@ module _ (s : Bytes) (l₀ l sp : List ℕ) (w : ℕ) (t : Widening s l₀ l sp 
       are = record { held = d.held; same = d.same ∙ t.are.same; runs = d.runs };
     }
 
-pub ruleset widening = (block_held, block_start, block_long, block_end, block_some, block_small, block_doubles, block_again)
+pub ruleset widening = (block_held, block_start, block_end, block_small, block_doubles, block_again)
 
 -- ---- sort: the first m are sorted
 
@@ -160,19 +151,19 @@ module _ (s : Bytes) (l₀ l sp : List ℕ) (m : ℕ) (t : Extending s l₀ l sp
   in_order : sorted s (take m l) ≡ take m l
   in_order = ap (sorted s) t.first.is ∙ sorted_twice s (take m l₀) ∙ sym t.first.is
 
-  pub sort_long : length l ≡ length l₀
-  sort_long = t.first.long
-
-  pub sort_end : length l ≤ m → SortedIs s l₀ l
-  sort_end h = record { held = t.held; is = sym (take_all m l h) ∙ t.first.is ∙ ap (sorted s) (take_all m l₀ (omega (arith, t.first.long))) }
+  pub sort_end : length l₀ ≤ m → SortedIs s l₀ l
+  sort_end h = record { held = t.held; is = sym (take_all m l (omega (arith, t.first.long))) ∙ t.first.is ∙ ap (sorted s) (take_all m l₀ h) }
 
   -- up to e
-  module _ (e : ℕ) (h : EndIs m (length l) e) where
+  module _ (e : ℕ) (f : e ≡ ord_min nat_cmp (m + 448) (length l)) (i : m < length l₀) where
     pub sort_part : e ≤ length l
-    sort_part = h.within
+    sort_part = end_within m 448 (length l) e f
 
-    pub sort_moves : m < e
-    sort_moves = h.some
+    moves : m < e
+    moves = end_some m 448 (length l) e f (omega arith) (omega (arith, t.first.long))
+
+    few : e - m ≤ 448
+    few = end_few m 448 (length l) e f
 
     part : length (take e l) ≡ e
     part = length-take-le e l sort_part
@@ -180,14 +171,14 @@ module _ (s : Bytes) (l₀ l sp : List ℕ) (m : ℕ) (t : Extending s l₀ l sp
     pub sort_extends : Extends s (take e l) m sp
     sort_extends = record {
       held = held_take s l e t.held sort_part;
-      within = omega (arith, part, h.some);
-      small = omega (arith, part, h.small);
+      within = omega (arith, part, moves);
+      small = omega (arith, part, few);
       room = t.spare;
-      left = rw (take-take m e l (omega (arith, h.some))) in_order;
+      left = rw (take-take m e l (omega (arith, moves))) in_order;
     }
 
     to_e : m + (e - m) ≡ e
-    to_e = omega (arith, h.some)
+    to_e = omega (arith, moves)
 
     cut : (k : List ℕ) → take e k ≡ take m k ++ take (e - m) (drop m k)
     cut k = ap (λ (n : ℕ). take n k) (sym to_e) ∙ take-add m (e - m) k
@@ -200,10 +191,10 @@ module _ (s : Bytes) (l₀ l sp : List ℕ) (m : ℕ) (t : Extending s l₀ l sp
         ap (sorted s) (cut l) ∙ ap (λ (r : List ℕ). sorted s (r ++ take (e - m) (drop m l))) t.first.is ∙ ap (λ (r : List ℕ). sorted s (sorted s (take m l₀) ++ take (e - m) r)) t.first.rest
         ∙ sorted_first s (take m l₀) (take (e - m) (drop m l₀)) ∙ ap (sorted s) (sym (cut l₀))
 
-    pub sort_again : (k sp' : List ℕ) → SortedIs s (take e l) k → length sp' ≡ length sp → Extending s l₀ (k ++ drop e l) sp' e
-    sort_again k sp' d f = record {
+    sorted_to : (k sp' : List ℕ) → SortedIs s (take e l) k → length sp' ≡ length sp → Extending s l₀ (k ++ drop e l) sp' e
+    sorted_to k sp' d g = record {
       held = held_both s k (drop e l) d.held (held_drop s l e t.held);
-      spare = f ∙ t.spare;
+      spare = g ∙ t.spare;
       first = record {
         long = long ∙ t.first.long;
         is = take_at k (drop e l) e size ∙ d.is ∙ same;
@@ -217,20 +208,15 @@ module _ (s : Bytes) (l₀ l sp : List ℕ) (m : ℕ) (t : Extending s l₀ l sp
         long : length (k ++ drop e l) ≡ length l
         long = let z : length (drop e l) ≡ length l - e = length-drop e l in length-append k (drop e l) ∙ omega (arith, size, sort_part)
 
-pub ruleset joining = (length-take-le, sort_none, sort_start, sort_long, sort_end, sort_part, sort_moves, sort_extends, sort_again)
+    pub sort_again : 448 < length l₀ - m → (k sp' : List ℕ) → SortedIs s (take e l) k → length sp' ≡ length sp → Extending s l₀ (k ++ drop e l) sp' (m + 448)
+    sort_again h k sp' d g =
+        let z : e ≡ m + 448 = end_inner m 448 (length l) e f (omega (arith, t.first.long)) in
+        subst (λ (n : ℕ). Extending s l₀ (k ++ drop e l) sp' n) z (sorted_to k sp' d g)
 
--- ---- sort_first
+    pub sort_last : length l₀ - m ≤ 448 → (k : List ℕ) → SortedIs s (take e l) k → SortedIs s l₀ (k ++ drop e l)
+    sort_last h k d =
+        let z : e ≡ length l = end_last m 448 (length l) e f (omega (arith, t.first.long)) in
+        let x = sorted_to k sp d refl in
+        record { held = x.held; is = sym (take_all e (k ++ drop e l) (omega (arith, x.first.long, t.first.long))) ∙ x.first.is ∙ ap (sorted s) (take_all e l₀ (omega (arith, t.first.long))) }
 
-module _ (s : Bytes) (l : List ℕ) (n : ℕ) (h : n ≤ length l) where
-  pub first_count : length (take n l) ≡ n
-  first_count = length-take-le n l h
-
-  pub first_long : (m : List ℕ) → SortedIs s (take n l) m → length m ≡ length (take n l)
-  first_long m i = ap length i.is ∙ length_sorted s (take n l)
-
-  pub first_done : (m : List ℕ) → SortedIs s (take n l) m → FirstSorted s l n (m ++ drop n l)
-  first_done m i =
-      let a : length m ≡ n = first_long m i ∙ length-take-le n l h in
-      record { long = length-append m (drop n l) ∙ simp length-drop (omega arith); is = take_at m (drop n l) n a ∙ i.is; rest = drop_at m (drop n l) n a }
-
-pub ruleset firsts = (first_count, first_long, first_done)
+pub ruleset joining = (length-take-le, sort_none, sort_start, sort_end, sort_part, sort_extends, sort_again, sort_last)

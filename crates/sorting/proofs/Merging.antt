@@ -37,13 +37,10 @@ module _ (from l₀ l : List ℕ) (k : ℕ) (t : Copying from l₀ l k) where
     is = rw add-one (take-suc-set l k (get_or from k 0) (copy_at h) ∙ ap (λ (r : List ℕ). r ++ (get_or from k 0 ∷ [])) t.is ∙ sym (take-suc from k 0 h));
   }
 
-  pub copy_same : length l ≡ length l₀
-  copy_same = t.same
-
   pub copy_end : length from ≤ k → l ≡ from
   copy_end h = sym (take_all k l (omega (arith, t.long))) ∙ t.is ∙ take_all k from h
 
-pub ruleset copying = (copy_start, copy_at, copy_again, copy_same, copy_end)
+pub ruleset copying = (copy_start, copy_at, copy_again, copy_end)
 
 -- ---- weave: the first i, the first j of the copy, and behind them what is merged
 
@@ -64,14 +61,8 @@ pub record Weaving (s : Bytes) (l₀ : List ℕ) (m : ℕ) (c l : List ℕ) (i j
   pub same : sorted s (take i l ++ (take j c ++ drop (i + j) l)) ≡ sorted s (take m l₀ ++ c)
 
 module _ (s : Bytes) (l : List ℕ) (m : ℕ) (c : List ℕ) (h : Weaves s l m c) where
-  pub weave_left : 1 ≤ m
-  weave_left = h.left_some
-
   pub weave_left_at : m - 1 < length l
   weave_left_at = omega (arith, h.left_some, h.long)
-
-  pub weave_right : 1 ≤ length c
-  weave_right = h.right_some
 
   pub weave_right_at : length c - 1 < length c
   weave_right_at = omega (arith, h.right_some)
@@ -133,18 +124,6 @@ module _ (s : Bytes) (a : List ℕ) (z : ℕ) (b c : List ℕ) where
   moved_other k e f d g = climbing_join s (climbing_first s b c g) (behind_last s b k z (climbing_first s b c g) e f) (climbing_last s a (z ∷ c) (moved_own d))
 
 module _ (s : Bytes) (l₀ : List ℕ) (m : ℕ) (c l : List ℕ) (i j x y p q : ℕ) (t : Weaving s l₀ m c l i j x y p q) where
-  pub weave_x_front : FrontOf s p x
-  weave_x_front = t.x_front
-
-  pub weave_y_front : FrontOf s q y
-  weave_y_front = t.y_front
-
-  pub weave_i : 1 ≤ i
-  weave_i = t.left_some
-
-  pub weave_j : 1 ≤ j
-  weave_j = t.right_some
-
   -- x goes to the end
 
   pub weave_x_at : i - 1 + j < length l
@@ -317,7 +296,7 @@ module _ (s : Bytes) (l₀ : List ℕ) (m : ℕ) (c l : List ℕ) (i j x y p q :
       same = y_same;
     }
 
-pub ruleset weaving = (weave_left, weave_left_at, weave_right, weave_right_at, weave_x, weave_y, weave_start, weave_x_front, weave_y_front, weave_i, weave_j, weave_x_at, weave_x_long, weave_x_end, weave_x_some, weave_x_next, weave_x_good, weave_x_again, weave_y_at, weave_y_long, weave_y_end, weave_y_some, weave_y_next, weave_y_good, weave_y_again)
+pub ruleset weaving = (weave_left_at, weave_right_at, weave_x, weave_y, weave_start, weave_x_at, weave_x_long, weave_x_end, weave_x_some, weave_x_next, weave_x_good, weave_x_again, weave_y_at, weave_y_long, weave_y_end, weave_y_some, weave_y_next, weave_y_good, weave_y_again)
 
 -- ---- merge
 
@@ -340,99 +319,97 @@ module _ (s : Bytes) (l : List ℕ) (m : ℕ) (sp : List ℕ) (h : Merges s l m 
   pub merge_none : m ≡ 0 → SortedIs s l l
   merge_none e = sorted_is s l l h.held (sym (subst (λ (k : ℕ). sorted s (drop k l) ≡ drop k l) e h.right))
 
-  pub merge_within : m < length l
-  merge_within = h.within
+  pub merge_short : length l ≤ m → SortedIs s l l
+  merge_short e = sorted_is s l l h.held (sym (subst (λ (k : List ℕ). sorted s k ≡ k) (take_all m l e) h.left))
 
-  pub merge_start : m ≤ length l
-  merge_start = omega (arith, h.within)
+  module _ (i : m < length l) where
+    pub merge_start : m ≤ length l
+    merge_start = omega (arith, i)
 
-  pub merge_room : length l - m ≤ length sp
-  merge_room = h.room
+    pub merge_here : Payload s (get_or l m 0)
+    merge_here = h.held.each m i
 
-  pub merge_here : Payload s (get_or l m 0)
-  merge_here = h.held.each m h.within
+    module _ (n : m ≡ 0 → ⊥) where
+      pub merge_some : 1 ≤ m
+      merge_some = omega arith
 
-  module _ (n : m ≡ 0 → ⊥) where
-    pub merge_some : 1 ≤ m
-    merge_some = omega arith
+      pub merge_last : m - 1 < length l
+      merge_last = omega (arith, i)
 
-    pub merge_last : m - 1 < length l
-    merge_last = omega (arith, h.within)
+      pub merge_before : Payload s (get_or l (m - 1) 0)
+      merge_before = h.held.each (m - 1) merge_last
 
-    pub merge_before : Payload s (get_or l (m - 1) 0)
-    merge_before = h.held.each (m - 1) merge_last
+      pub merge_no : (b : Bool) → b ≡ precedes s (get_or l m 0) (get_or l (m - 1) 0) → b ≡ false → SortedIs s l l
+      merge_no b e f = sorted_is s l l h.held (sym (sorted_fixed s whole_run))
+        where
+          first : length (take m l) ≡ m - 1 + 1
+          first = length-take-le m l merge_start ∙ omega arith
 
-    pub merge_no : (b : Bool) → b ≡ precedes s (get_or l m 0) (get_or l (m - 1) 0) → b ≡ false → SortedIs s l l
-    merge_no b e f = sorted_is s l l h.held (sym (sorted_fixed s whole_run))
-      where
-        first : length (take m l) ≡ m - 1 + 1
-        first = length-take-le m l merge_start ∙ omega arith
+          seam : drop m l ≡ get_or l m 0 ∷ drop (suc m) l
+          seam = drop-cons l m 0 i
 
-        seam : drop m l ≡ get_or l m 0 ∷ drop (suc m) l
-        seam = drop-cons l m 0 h.within
+          below : precedes s (get_or l m 0) (get_or (take m l) (m - 1) 0) ≡ false
+          below = rw (get_or-take m l (m - 1) 0 (omega arith)) (sym e ∙ f)
 
-        below : precedes s (get_or l m 0) (get_or (take m l) (m - 1) 0) ≡ false
-        below = rw (get_or-take m l (m - 1) 0 (omega arith)) (sym e ∙ f)
+          whole_run : Climbing s l
+          whole_run = subst (Climbing s) (ap (λ (r : List ℕ). take m l ++ r) (sym seam) ∙ take-append-drop m l)
+              (climbing_join s (climbing_of s (take m l) h.left) (behind_last s (take m l) (m - 1) (get_or l m 0) (climbing_of s (take m l) h.left) first below) (subst (Climbing s) seam (climbing_of s (drop m l) h.right)))
 
-        whole_run : Climbing s l
-        whole_run = subst (Climbing s) (ap (λ (r : List ℕ). take m l ++ r) (sym seam) ∙ take-append-drop m l)
-            (climbing_join s (climbing_of s (take m l) h.left) (behind_last s (take m l) (m - 1) (get_or l m 0) (climbing_of s (take m l) h.left) first below) (subst (Climbing s) seam (climbing_of s (drop m l) h.right)))
+    pub merge_copies : length (take (length l - m) sp) ≡ length (take (length l - m) (drop m l))
+    merge_copies = length-take-le (length l - m) sp h.room ∙ sym (length-take-le (length l - m) (drop m l) (rw (length-drop m l) (omega arith)))
 
-  pub merge_copies : length (take (length l - m) sp) ≡ length (take (length l - m) (drop m l))
-  merge_copies = length-take-le (length l - m) sp h.room ∙ sym (length-take-le (length l - m) (drop m l) (rw (length-drop m l) (omega arith)))
+    module _ (c : List ℕ) (e : c ≡ take (length l - m) (drop m l)) where
+      copied : c ≡ drop m l
+      copied = e ∙ take_all (length l - m) (drop m l) (rw (length-drop m l) (omega arith))
 
-  module _ (c : List ℕ) (e : c ≡ take (length l - m) (drop m l)) where
-    copied : c ≡ drop m l
-    copied = e ∙ take_all (length l - m) (drop m l) (rw (length-drop m l) (omega arith))
+      copied_long : length c ≡ length l - m
+      copied_long = ap length copied ∙ length-drop m l
 
-    copied_long : length c ≡ length l - m
-    copied_long = ap length copied ∙ length-drop m l
+      pub merge_spare_long : length (c ++ drop (length l - m) sp) ≡ length sp
+      merge_spare_long = let z : length (drop (length l - m) sp) ≡ length sp - (length l - m) = length-drop (length l - m) sp in length-append c (drop (length l - m) sp) ∙ omega (arith, copied_long, h.room)
 
-    pub merge_spare_long : length (c ++ drop (length l - m) sp) ≡ length sp
-    merge_spare_long = let z : length (drop (length l - m) sp) ≡ length sp - (length l - m) = length-drop (length l - m) sp in length-append c (drop (length l - m) sp) ∙ omega (arith, copied_long, h.room)
+      pub merge_spare : length l - m ≤ length (c ++ drop (length l - m) sp)
+      merge_spare = omega (arith, merge_spare_long, h.room)
 
-    pub merge_spare : length l - m ≤ length (c ++ drop (length l - m) sp)
-    merge_spare = omega (arith, merge_spare_long, h.room)
+      front : take (length l - m) (c ++ drop (length l - m) sp) ≡ drop m l
+      front = take_at c (drop (length l - m) sp) (length l - m) copied_long ∙ copied
 
-    front : take (length l - m) (c ++ drop (length l - m) sp) ≡ drop m l
-    front = take_at c (drop (length l - m) sp) (length l - m) copied_long ∙ copied
+      pub merge_weaves : (m ≡ 0 → ⊥) → Weaves s l m (take (length l - m) (c ++ drop (length l - m) sp))
+      merge_weaves n = rw front (record {
+        left_held = held_take s l m h.held merge_start;
+        right_held = held_drop s l m h.held;
+        left = h.left;
+        right = h.right;
+        left_some = omega arith;
+        right_some = rw (length-drop m l) (omega (arith, i));
+        long = rw (length-drop m l) (omega (arith, i));
+      })
 
-    pub merge_weaves : (m ≡ 0 → ⊥) → Weaves s l m (take (length l - m) (c ++ drop (length l - m) sp))
-    merge_weaves n = rw front (record {
-      left_held = held_take s l m h.held merge_start;
-      right_held = held_drop s l m h.held;
-      left = h.left;
-      right = h.right;
-      left_some = omega arith;
-      right_some = rw (length-drop m l) (omega (arith, h.within));
-      long = rw (length-drop m l) (omega (arith, h.within));
-    })
+      module _ (l' : List ℕ) (r : ℕ) (w : Woven s l m (take (length l - m) (c ++ drop (length l - m) sp)) l' r) where
+        few : r ≤ length l - m
+        few = let z : length (take (length l - m) (c ++ drop (length l - m) sp)) ≡ length l - m = length-take-le (length l - m) (c ++ drop (length l - m) sp) merge_spare in omega (arith, w.few)
 
-    module _ (l' : List ℕ) (r : ℕ) (w : Woven s l m (take (length l - m) (c ++ drop (length l - m) sp)) l' r) where
-      few : r ≤ length l - m
-      few = let z : length (take (length l - m) (c ++ drop (length l - m) sp)) ≡ length l - m = length-take-le (length l - m) (c ++ drop (length l - m) sp) merge_spare in omega (arith, w.few)
+        pub merge_few : r ≤ length (c ++ drop (length l - m) sp)
+        merge_few = omega (arith, few, merge_spare)
 
-      pub merge_few : r ≤ length (c ++ drop (length l - m) sp)
-      merge_few = omega (arith, few, merge_spare)
+        pub merge_fits : r ≤ length l'
+        merge_fits = omega (arith, few, w.long)
 
-      pub merge_fits : r ≤ length l'
-      merge_fits = omega (arith, few, w.long)
+        pub merge_back : length (take r l') ≡ length (take r (c ++ drop (length l - m) sp))
+        merge_back = length-take-le r l' merge_fits ∙ sym (length-take-le r (c ++ drop (length l - m) sp) merge_few)
 
-      pub merge_back : length (take r l') ≡ length (take r (c ++ drop (length l - m) sp))
-      merge_back = length-take-le r l' merge_fits ∙ sym (length-take-le r (c ++ drop (length l - m) sp) merge_few)
+        module _ (d : List ℕ) (f : d ≡ take r (c ++ drop (length l - m) sp)) where
+          pub merge_long : length (d ++ drop r l') ≡ length l
+          merge_long =
+              let z : length d ≡ r = ap length f ∙ length-take-le r (c ++ drop (length l - m) sp) merge_few in
+              let y : length (drop r l') ≡ length l' - r = length-drop r l' in
+              length-append d (drop r l') ∙ omega (arith, merge_fits, w.long)
 
-      module _ (d : List ℕ) (f : d ≡ take r (c ++ drop (length l - m) sp)) where
-        pub merge_long : length (d ++ drop r l') ≡ length l
-        merge_long =
-            let z : length d ≡ r = ap length f ∙ length-take-le r (c ++ drop (length l - m) sp) merge_few in
-            let y : length (drop r l') ≡ length l' - r = length-drop r l' in
-            length-append d (drop r l') ∙ omega (arith, merge_fits, w.long)
+          pub merge_done : SortedIs s l (d ++ drop r l')
+          merge_done = sorted_is s l (d ++ drop r l') h.held
+              (ap (λ (x : List ℕ). x ++ drop r l') (f ∙ sym (take-take r (length l - m) (c ++ drop (length l - m) sp) few))
+              ∙ w.is
+              ∙ ap (λ (x : List ℕ). sorted s (take m l ++ x)) front
+              ∙ ap (sorted s) (take-append-drop m l))
 
-        pub merge_done : SortedIs s l (d ++ drop r l')
-        merge_done = sorted_is s l (d ++ drop r l') h.held
-            (ap (λ (x : List ℕ). x ++ drop r l') (f ∙ sym (take-take r (length l - m) (c ++ drop (length l - m) sp) few))
-            ∙ w.is
-            ∙ ap (λ (x : List ℕ). sorted s (take m l ++ x)) front
-            ∙ ap (sorted s) (take-append-drop m l))
-
-pub ruleset merging = (length-take-le, merge_none, merge_within, merge_start, merge_room, merge_here, merge_some, merge_last, merge_before, merge_no, merge_copies, merge_spare_long, merge_spare, merge_weaves, merge_few, merge_fits, merge_back, merge_long, merge_done)
+pub ruleset merging = (length-take-le, merge_none, merge_short, merge_start, merge_here, merge_some, merge_last, merge_before, merge_no, merge_copies, merge_spare_long, merge_spare, merge_weaves, merge_few, merge_fits, merge_back, merge_long, merge_done)

@@ -5,6 +5,12 @@ use mathlib.Core.List.{List, [], ◌++◌, append-nil, append_assoc}
 use native.Mathlib.Omega.{arith}
 use lib.ListN.{length, take, drop, length-append, length-drop, drop_of_length-le, take-append-drop}
 use lib.Seq.{length-take-le, take_all, take_at, take-take, take-add, drop_at, drop-drop}
+use mathlib.Core.Bool.{cond}
+use native.Mathlib.Decide.{dec_le}
+use Rattle.std.specs.Ordering.{MatchOrdering, nat_cmp, ord_min, is_lt}
+use Rattle.std.specs.declared.cmp.Ordering.{Ordering}
+use Rattle.std.specs.declared.cmp.Ordering.TheVariants.{Less, Equal, Greater}
+use Rattle.std.proofs.lemmas.Cmp.{ranked}
 use Rattle.payload.specs.Content.{Bytes}
 use Rattle.sorting.specs.Sorted.{sorted}
 use Rattle.sorting.specs.Sort.{Held, Merges, SortedIs, Runs, last, more, RunsAre, Doubles}
@@ -111,38 +117,87 @@ module _ (s : Bytes) (l₀ l : List ℕ) (w a : ℕ) (t : Built s l₀ l w a) wh
     runs = subst (Runs s w) (take-append-drop a l) (t.runs (drop a l) (last (rw (length-drop a l) b) e));
   }
 
+-- ---- where a run ends that starts at a, of so many in all
+
+module _ (a w n e : ℕ) (f : e ≡ ord_min nat_cmp (a + w) n) where
+  pub end_inner : a + w ≤ n → e ≡ a + w
+  end_inner h = f ∙ go (nat_cmp n (a + w)) (ranked n (a + w) (nat_cmp n (a + w)) refl)
+    where
+      go : (r : Ordering) → MatchOrdering r (n < a + w) (n ≡ a + w) (a + w < n) → cond (is_lt r) n (a + w) ≡ a + w
+      go Less k = absurd (omega arith)
+      go Equal k = refl
+      go Greater k = refl
+
+  pub end_last : n ≤ a + w → e ≡ n
+  end_last h = f ∙ go (nat_cmp n (a + w)) (ranked n (a + w) (nat_cmp n (a + w)) refl)
+    where
+      go : (r : Ordering) → MatchOrdering r (n < a + w) (n ≡ a + w) (a + w < n) → cond (is_lt r) n (a + w) ≡ n
+      go Less k = refl
+      go Equal k = sym k
+      go Greater k = absurd (omega arith)
+
+  pub end_within : e ≤ n
+  end_within = go (dec_le n (a + w))
+    where
+      go : Dec (n ≤ a + w) → e ≤ n
+      go (yes h) = omega (arith, end_last h)
+      go (no h) = omega (arith, end_inner (omega arith))
+
+  pub end_behind : a < n → a ≤ e
+  end_behind h = go (dec_le n (a + w))
+    where
+      go : Dec (n ≤ a + w) → a ≤ e
+      go (yes k) = omega (arith, end_last k)
+      go (no k) = omega (arith, end_inner (omega arith))
+
+  pub end_some : 1 ≤ w → a < n → a < e
+  end_some g h = go (dec_le n (a + w))
+    where
+      go : Dec (n ≤ a + w) → a < e
+      go (yes k) = omega (arith, end_last k)
+      go (no k) = omega (arith, end_inner (omega arith))
+
+  pub end_few : e - a ≤ w
+  end_few = go (dec_le n (a + w))
+    where
+      go : Dec (n ≤ a + w) → e - a ≤ w
+      go (yes k) = omega (arith, end_last k)
+      go (no k) = omega (arith, end_inner (omega arith))
+
 -- ---- settle_runs
 
 pub settle_runs_start : (s : Bytes) (l : List ℕ) → Held s l → Built s l l 7 0
 settle_runs_start s l h = built_start s l 7 h
 
+module _ (s : Bytes) (l₀ l : List ℕ) (w a : ℕ) (t : Built s l₀ l w a) where
+  built_empty : length l₀ ≤ a → RunsAre s l₀ w l
+  unfolding sorted
+  built_empty h =
+      let z : length l ≤ a = omega (arith, t.long) in
+      built_none s l₀ l w a t (omega arith) (rw (drop_of_length-le l z))
+
 module _ (s : Bytes) (l₀ l : List ℕ) (a : ℕ) (t : Built s l₀ l 7 a) where
-  pub runs_small : a ≤ length l
-  runs_small = t.small
+  pub runs_none : length l₀ ≤ a → RunsAre s l₀ 7 l
+  runs_none = built_empty s l₀ l 7 a t
 
-  pub runs_long : length l ≡ length l₀
-  runs_long = t.long
+  module _ (e : ℕ) (f : e ≡ ord_min nat_cmp (a + 7) (length l)) where
+    pub runs_part : a < length l₀ → Held s (take (e - a) (drop a l))
+    runs_part h = held_take s (drop a l) (e - a) (held_drop s l a t.held) (rw (length-drop a l) (omega (arith, end_within a 7 (length l) e f)))
 
-  pub runs_rest : Held s (take (length l - a) (drop a l))
-  runs_rest = held_take s (drop a l) (length l - a) (held_drop s l a t.held) (rw (length-drop a l) (omega arith))
+    module _ (m : List ℕ) (d : SortedIs s (take (e - a) (drop a l)) m) where
+      pub runs_again : 7 < length l₀ - a → Built s l₀ (take a l ++ (m ++ drop (e - a) (drop a l))) 7 (a + 7)
+      runs_again h =
+          let k : a + 7 ≤ length l = omega (arith, t.long) in
+          let z : e - a ≡ 7 = omega (arith, end_inner a 7 (length l) e f k) in
+          rw z (built_again s l₀ l 7 a t m k (subst (λ (n : ℕ). SortedIs s (take n (drop a l)) m) z d))
 
-  pub runs_last : (m : List ℕ) → length l - a ≤ 7 → SortedIs s (take (length l - a) (drop a l)) m → RunsAre s l₀ 7 (take a l ++ (m ++ drop (length l - a) (drop a l)))
-  runs_last m b d = built_last s l₀ l 7 a t m b d
+      pub runs_last : length l₀ - a ≤ 7 → RunsAre s l₀ 7 (take a l ++ (m ++ drop (e - a) (drop a l)))
+      runs_last h =
+          let k : length l ≤ a + 7 = omega (arith, t.long) in
+          let z : e - a ≡ length l - a = ap (λ (n : ℕ). n - a) (end_last a 7 (length l) e f k) in
+          rw z (built_last s l₀ l 7 a t m (omega arith) (subst (λ (n : ℕ). SortedIs s (take n (drop a l)) m) z d))
 
-  module _ (b : 7 < length l - a) where
-    seven : a + 7 - a ≡ 7
-    seven = omega arith
-
-    pub runs_room : a + 7 ≤ length l
-    runs_room = omega arith
-
-    pub runs_part : Held s (take (a + 7 - a) (drop a l))
-    runs_part = rw seven (held_take s (drop a l) 7 (held_drop s l a t.held) (rw (length-drop a l) (omega arith)))
-
-    pub runs_again : (m : List ℕ) → SortedIs s (take (a + 7 - a) (drop a l)) m → Built s l₀ (take a l ++ (m ++ drop (a + 7 - a) (drop a l))) 7 (a + 7)
-    runs_again m d = rw seven (built_again s l₀ l 7 a t m runs_room (subst (λ (k : ℕ). SortedIs s (take k (drop a l)) m) seven d))
-
-pub ruleset settles_runs = (length-take-le, settle_runs_start, runs_small, runs_long, runs_rest, runs_last, runs_room, runs_part, runs_again)
+pub ruleset settles_runs = (length-take-le, end_within, end_behind, settle_runs_start, runs_none, runs_part, runs_again, runs_last)
 
 -- ---- merge_runs
 
@@ -156,83 +211,94 @@ pub record Doubling (s : Bytes) (l₀ : List ℕ) (w : ℕ) (l sp : List ℕ) (a
 pub double_start : (s : Bytes) (l : List ℕ) (w : ℕ) (sp : List ℕ) → Doubles s l w sp → Doubling s l w l sp 0
 double_start s l w sp h = record { some = h.some; small = h.small; room = h.room; built = built_start s l (w + w) h.held; rest = h.runs }
 
-pub double_width : (s : Bytes) (l : List ℕ) (w : ℕ) (sp : List ℕ) → Doubles s l w sp → w ≤ 448
-double_width s l w sp h = h.small
+module _ (s : Bytes) (l : List ℕ) (w : ℕ) (sp : List ℕ) (h : Doubles s l w sp) where
+  pub double_some : 1 ≤ w + w
+  double_some = omega (arith, h.some)
+
+  pub double_step : w + w ≡ 0 → ⊥
+  double_step e = omega (arith, h.some)
 
 module _ (s : Bytes) (l₀ : List ℕ) (w : ℕ) (l sp : List ℕ) (a : ℕ) (t : Doubling s l₀ w l sp a) where
-  pub double_small : w ≤ 448
-  double_small = t.small
-
-  pub double_within : a ≤ length l
-  double_within = t.built.small
-
-  pub double_long : length l ≡ length l₀
-  double_long = t.built.long
+  pub double_none : length l₀ ≤ a → RunsAre s l₀ (w + w) l
+  double_none = built_empty s l₀ l (w + w) a t.built
 
   long : length (drop a l) ≡ length l - a
   long = length-drop a l
 
-  pub double_none : length l - a ≤ w → RunsAre s l₀ (w + w) l
-  double_none b = built_none s l₀ l (w + w) a t.built (omega arith) (run_only s w t.rest (omega (arith, long)))
-
-  -- the next k, a run and some of the next
-  module _ (k : ℕ) (b : w < k) (c : k ≤ w + w) (d : k ≤ length (drop a l)) (e : sorted s (take (k - w) (drop w (drop a l))) ≡ take (k - w) (drop w (drop a l))) where
+  -- the next k: a run and some of the next, or no more than a run
+  module _ (k : ℕ) (c : k ≤ w + w) (d : k ≤ length (drop a l)) where
     pair : length (take k (drop a l)) ≡ k
     pair = length-take-le k (drop a l) d
 
-    second : drop w (take k (drop a l)) ≡ take (k - w) (drop w (drop a l))
-    second =
+    second : w ≤ k → drop w (take k (drop a l)) ≡ take (k - w) (drop w (drop a l))
+    second b =
         let z : k ≡ w + (k - w) = omega arith in
         ap (λ (n : ℕ). drop w (take n (drop a l))) z ∙ ap (drop w) (take-add w (k - w) (drop a l)) ∙ drop_at (take w (drop a l)) (take (k - w) (drop w (drop a l))) w (length-take-le w (drop a l) (omega arith))
 
-    pair_merges : Merges s (take k (drop a l)) w sp
-    pair_merges = record {
+    pair_merges : w < k → sorted s (take (k - w) (drop w (drop a l))) ≡ take (k - w) (drop w (drop a l)) → Merges s (take k (drop a l)) w sp
+    pair_merges b e = record {
       held = held_take s (drop a l) k (held_drop s l a t.built.held) d;
-      within = omega (arith, pair);
       room = omega (arith, pair, t.small, t.room);
       left = rw (take-take w k (drop a l) (omega arith)) (run_first s w t.rest (omega arith));
-      right = rw second e;
+      right = rw (second (omega arith)) e;
     }
 
-  module _ (b : w < length l - a) (c : length l - a ≤ w + w) where
-    other : length (drop w (drop a l)) ≡ length l - a - w
-    other = length-drop w (drop a l) ∙ omega (arith, long)
+    run_merges : k ≤ w → length (drop a l) ≤ k → Merges s (take k (drop a l)) w sp
+    unfolding sorted
+    run_merges b e = rw (take_all k (drop a l) e) (record {
+      held = held_drop s l a t.built.held;
+      room = omega (arith, t.room);
+      left = rw (take_all w (drop a l) (omega arith)) (run_only s w t.rest (omega arith));
+      right = rw (drop_of_length-le (drop a l) {i = w} (omega arith));
+    })
 
-    pub double_tail : Merges s (take (length l - a) (drop a l)) w sp
-    double_tail = pair_merges (length l - a) b c (omega (arith, long))
-        (rw (take_all (length l - a - w) (drop w (drop a l)) (omega (arith, other))) (run_only s w (run_behind s w t.rest (omega (arith, long))) (omega (arith, other))))
-
-    pub double_last : (m : List ℕ) → SortedIs s (take (length l - a) (drop a l)) m → RunsAre s l₀ (w + w) (take a l ++ (m ++ drop (length l - a) (drop a l)))
-    double_last m d = built_last s l₀ l (w + w) a t.built m c d
-
-  module _ (b : w + w < length l - a) where
-    two : a + (w + w) - a ≡ w + w
-    two = omega arith
-
-    next : length (drop w (drop a l)) ≡ length l - a - w
-    next = length-drop w (drop a l) ∙ omega (arith, long)
-
-    pub double_room : a + (w + w) ≤ length l
-    double_room = omega arith
-
-    pub double_pair : Merges s (take (a + (w + w) - a) (drop a l)) w sp
-    double_pair = rw two (pair_merges (w + w) (omega (arith, t.some)) (omega arith) (omega (arith, long))
-        (subst (λ (k : ℕ). sorted s (take k (drop w (drop a l))) ≡ take k (drop w (drop a l))) one (run_first s w (run_behind s w t.rest (omega (arith, long))) (omega (arith, next)))))
+  module _ (e : ℕ) (f : e ≡ ord_min nat_cmp (a + (w + w)) (length l)) where
+    pub double_merges : a < length l₀ → Merges s (take (e - a) (drop a l)) w sp
+    double_merges h = go (dec_le (w + w) (length l - a)) (dec_le (length l - a) w)
       where
+        inside : a < length l
+        inside = omega (arith, t.built.long)
+
         one : w ≡ w + w - w
         one = omega arith
 
-    pub double_again : (m sp' : List ℕ) → SortedIs s (take (a + (w + w) - a) (drop a l)) m → length sp' ≡ length sp →
-        Doubling s l₀ w (take a l ++ (m ++ drop (a + (w + w) - a) (drop a l))) sp' (a + (w + w))
-    double_again m sp' d f = rw two (go (subst (λ (k : ℕ). SortedIs s (take k (drop a l)) m) two d))
-      where
-        go : SortedIs s (take (w + w) (drop a l)) m → Doubling s l₀ w (take a l ++ (m ++ drop (w + w) (drop a l))) sp' (a + (w + w))
-        go g = record {
-          some = t.some;
-          small = t.small;
-          room = f ∙ t.room;
-          built = built_again s l₀ l (w + w) a t.built m double_room g;
-          rest = rw (part_rest s l a (w + w) m t.built.held g double_room) (subst (Runs s w) (drop-drop w w (drop a l)) (run_behind s w (run_behind s w t.rest (omega (arith, long))) (omega (arith, next))));
-        }
+        go : Dec (w + w ≤ length l - a) → Dec (length l - a ≤ w) → Merges s (take (e - a) (drop a l)) w sp
+        go (yes k) j =
+            let z : e - a ≡ w + w = omega (arith, end_inner a (w + w) (length l) e f (omega (arith, inside))) in
+            let next : length (drop w (drop a l)) ≡ length l - a - w = length-drop w (drop a l) ∙ omega (arith, long) in
+            rw z (pair_merges (w + w) (omega arith) (omega (arith, long)) (omega (arith, t.some))
+            (subst (λ (k : ℕ). sorted s (take k (drop w (drop a l))) ≡ take k (drop w (drop a l))) one (run_first s w (run_behind s w t.rest (omega (arith, long))) (omega (arith, next)))))
+        go (no k) (yes j) =
+            let z : e - a ≡ length l - a = ap (λ (n : ℕ). n - a) (end_last a (w + w) (length l) e f (omega arith)) in
+            rw z (run_merges (length l - a) (omega arith) (omega (arith, long)) j (omega (arith, long)))
+        go (no k) (no j) =
+            let z : e - a ≡ length l - a = ap (λ (n : ℕ). n - a) (end_last a (w + w) (length l) e f (omega arith)) in
+            let other : length (drop w (drop a l)) ≡ length l - a - w = length-drop w (drop a l) ∙ omega (arith, long) in
+            rw z (pair_merges (length l - a) (omega arith) (omega (arith, long)) (omega arith)
+            (rw (take_all (length l - a - w) (drop w (drop a l)) (omega (arith, other))) (run_only s w (run_behind s w t.rest (omega (arith, long))) (omega (arith, other)))))
 
-pub ruleset doubling = (length-take-le, double_start, double_width, double_small, double_within, double_long, double_none, double_tail, double_last, double_room, double_pair, double_again)
+    module _ (m : List ℕ) (d : SortedIs s (take (e - a) (drop a l)) m) where
+      pub double_last : length l₀ - a ≤ w + w → RunsAre s l₀ (w + w) (take a l ++ (m ++ drop (e - a) (drop a l)))
+      double_last h =
+          let k : length l ≤ a + (w + w) = omega (arith, t.built.long) in
+          let z : e - a ≡ length l - a = ap (λ (n : ℕ). n - a) (end_last a (w + w) (length l) e f k) in
+          rw z (built_last s l₀ l (w + w) a t.built m (omega arith) (subst (λ (n : ℕ). SortedIs s (take n (drop a l)) m) z d))
+
+      pub double_again : w + w < length l₀ - a → (sp' : List ℕ) → length sp' ≡ length sp → Doubling s l₀ w (take a l ++ (m ++ drop (e - a) (drop a l))) sp' (a + (w + w))
+      double_again h sp' g =
+          let k : a + (w + w) ≤ length l = omega (arith, t.built.long) in
+          let z : e - a ≡ w + w = omega (arith, end_inner a (w + w) (length l) e f k) in
+          rw z (go k (subst (λ (n : ℕ). SortedIs s (take n (drop a l)) m) z d))
+        where
+          go : a + (w + w) ≤ length l → SortedIs s (take (w + w) (drop a l)) m → Doubling s l₀ w (take a l ++ (m ++ drop (w + w) (drop a l))) sp' (a + (w + w))
+          go k q =
+              let next : length (drop w (drop a l)) ≡ length l - a - w = length-drop w (drop a l) ∙ omega (arith, long) in
+              record {
+                some = t.some;
+                small = t.small;
+                room = g ∙ t.room;
+                built = built_again s l₀ l (w + w) a t.built m k q;
+                rest = rw (part_rest s l a (w + w) m t.built.held q k) (subst (Runs s w) (drop-drop w w (drop a l)) (run_behind s w (run_behind s w t.rest (omega (arith, long))) (omega (arith, next))));
+              }
+
+pub ruleset doubling = (length-take-le, end_within, end_behind, double_start, double_some, double_step, double_none, double_merges, double_last, double_again)

@@ -1,8 +1,9 @@
 -- Laws of the sort by insertion: an offset goes down, each does.
 use Prim.Native.Nat.{ℕ, ◌+◌, ◌-◌, ◌≤◌, ◌<◌}
-use mathlib.Core.Path.{◌≡◌, refl, sym, ap, ◌∙◌}
+use mathlib.Core.Path.{◌≡◌, refl, sym, ap, subst, ◌∙◌}
 use mathlib.Core.List.{List}
-use mathlib.Core.Bool.{Bool, true, false}
+use mathlib.Core.Bool.{Bool, true, false, not}
+use borrow.Author.Tests.{not-true, not-false}
 use native.Mathlib.Omega.{arith}
 use native.Mathlib.Decide.{ℕ_discrete}
 use lib.ListN.{length, get_or, set, length-set}
@@ -57,9 +58,6 @@ pub record Settling (s : Bytes) (l₀ : List ℕ) (i x p : ℕ) (l : List ℕ) (
   pub order : Climbs s l₀ i → (a b : ℕ) → a < b → b ≤ i → (b ≡ j → ⊥) → precedes s (get_or (set l j x) b 0) (get_or (set l j x) a 0) ≡ false
 
 module _ (s : Bytes) (l : List ℕ) (i : ℕ) (h : Settles s l i) where
-  pub settle_within : i < length l
-  settle_within = h.within
-
   pub settle_good : Payload s (get_or l i 0)
   settle_good = h.held.each i h.within
 
@@ -78,13 +76,19 @@ module _ (s : Bytes) (l₀ : List ℕ) (i x p : ℕ) (l : List ℕ) (j : ℕ) (t
   pub settle_at : j < length l
   settle_at = omega (arith, t.place, t.within)
 
-  pub settle_front : FrontOf s p x
-  settle_front = t.front
-
   stands : length (set l j x) ≡ length l₀
   stands = length-set l j x ∙ t.long
 
-  module _ (h : 1 ≤ j) where
+  pub settle_zero : 0 < length l
+  settle_zero = omega (arith, t.within)
+
+  module _ (h : 0 < j) where
+    back : j - 1 + 1 ≡ j
+    back = omega arith
+
+    pub settle_above : j - 1 + 1 < length l
+    settle_above = omega (arith, t.place, t.within)
+
     pub settle_below : j - 1 < length l
     settle_below = omega (arith, t.place, t.within)
 
@@ -121,11 +125,11 @@ module _ (s : Bytes) (l₀ : List ℕ) (i x p : ℕ) (l : List ℕ) (j : ℕ) (t
         swap : set (set l j (get_or l (j - 1) 0)) (j - 1) x ≡ set (set (set l j x) j (get_or (set l j x) (j - 1) 0)) (j - 1) (get_or (set l j x) j 0)
         swap = rw (here, there, set-set l j x (get_or l (j - 1) 0))
 
-    pub settle_again : (r : Bool) → r ≡ precedes s x (get_or l (j - 1) 0) → r ≡ true → Settling s l₀ i x p (set l j (get_or l (j - 1) 0)) (j - 1)
-    settle_again r p q = lower (sym p ∙ q)
+    pub settle_again : (r : Bool) → r ≡ precedes s x (get_or l (j - 1) 0) → not r ≡ false → Settling s l₀ i x p (set l (j - 1 + 1) (get_or l (j - 1) 0)) (j - 1)
+    settle_again r f g = rw back (lower (sym f ∙ not-false r g))
 
-    pub settle_stop : (r : Bool) → r ≡ precedes s x (get_or l (j - 1) 0) → r ≡ false → Settled s l₀ (set l j x) i
-    settle_stop r f g = rest (sym f ∙ g)
+    pub settle_stop : (r : Bool) → r ≡ precedes s x (get_or l (j - 1) 0) → not r ≡ true → Settled s l₀ (set l (j - 1 + 1) x) i
+    settle_stop r f g = rw back (rest (sym f ∙ not-true r g))
       where
         rest : precedes s x (get_or l (j - 1) 0) ≡ false → Settled s l₀ (set l j x) i
         rest e = record {
@@ -135,15 +139,15 @@ module _ (s : Bytes) (l₀ : List ℕ) (i x p : ℕ) (l : List ℕ) (j : ℕ) (t
           order = λ c. record { up = λ a b p q. climb_stop s (λ (m : ℕ). get_or (set l j x) m 0) (λ (m : ℕ). m) i j (j - 1) (omega arith) (t.order c) t.place (rw (here, there) e) a b p (omega arith) };
         }
 
-  pub settle_end : j < 1 → Settled s l₀ (set l j x) i
-  settle_end h = record {
+  pub settle_end : j ≤ 0 → Settled s l₀ (set l 0 x) i
+  settle_end h = let z : j ≡ 0 = omega arith in subst (λ (k : ℕ). Settled s l₀ (set l k x) i) z (record {
     held = held_set s l j x t.held t.front.payload;
     long = stands;
     same = t.same;
     order = λ c. record { up = λ a b p q. t.order c a b p (omega arith) (λ w. omega arith) };
-  }
+  })
 
-pub ruleset settling = (settle_within, settle_good, settle_start, settle_at, settle_front, settle_below, settle_other, settle_other_front, settle_again, settle_stop, settle_end)
+pub ruleset settling = (settle_zero, settle_above, settle_good, settle_start, settle_at, settle_below, settle_other, settle_other_front, settle_again, settle_stop, settle_end)
 
 -- ---- settle_all: the first i went down
 
@@ -163,10 +167,7 @@ module _ (s : Bytes) (l₀ l : List ℕ) (i : ℕ) (t : Lining s l₀ l i) where
   pub line_again : (m : List ℕ) → Settled s l m i → Lining s l₀ m (i + 1)
   line_again m d = record { held = d.held; long = d.long ∙ t.long; same = d.same ∙ t.same; order = d.order t.order }
 
-  pub line_long : length l ≡ length l₀
-  line_long = t.long
-
   pub line_end : length l ≤ i → SortedIs s l₀ l
   line_end h = record { held = t.held; is = sym (sorted_fixed s (climbing_by s l (λ a b p q. t.order.up a b p (omega arith)))) ∙ t.same }
 
-pub ruleset lining = (line_start, line_settles, line_again, line_long, line_end)
+pub ruleset lining = (line_start, line_settles, line_again, line_end)

@@ -58,7 +58,6 @@ pub record Woven (s : Bytes) (l₀ : List ℕ) (m : ℕ) (c l : List ℕ) (r : �
 -- the first m and the others are each in order, and `spare` has room for the others
 pub record Merges (s : Bytes) (l : List ℕ) (m : ℕ) (spare : List ℕ) : Type 0 where
   pub held : Held s l
-  pub within : m < length l
   pub room : length l - m ≤ length spare
   pub left : sorted s (take m l) ≡ take m l
   pub right : sorted s (drop m l) ≡ drop m l
@@ -84,11 +83,6 @@ pub record Doubles (s : Bytes) (l : List ℕ) (w : ℕ) (spare : List ℕ) : Typ
   pub room : length spare ≡ 448
 
 -- ---- blocks of 448
-
-pub record EndIs (m n r : ℕ) : Type 0 where
-  pub some : m < r
-  pub within : r ≤ n
-  pub small : r - m ≤ 448
 
 pub record Block (s : Bytes) (l spare : List ℕ) : Type 0 where
   pub held : Held s l

@@ -11,18 +11,15 @@ fn settle(s: &[u8], buf: &mut [usize], i: usize)
 {
     let x = buf[i];
     let p = front_at(s, x);
-    let mut j = i;
-    while 1 <= j {
-        let y = buf[j - 1];
-        if is_before_by(s, p, x, front_at(s, y), y) {
-            buf[j] = y;
-            j -= 1;
-        } else {
-            buf[j] = x;
+    for j in (0..i).rev() {
+        let y = buf[j];
+        if !is_before_by(s, p, x, front_at(s, y), y) {
+            buf[j + 1] = x;
             return;
         }
+        buf[j + 1] = y;
     }
-    buf[j] = x;
+    buf[0] = x;
 }
 
 // Each offset in turn goes down.
@@ -30,9 +27,7 @@ pub(crate) fn settle_all(s: &[u8], buf: &mut [usize])
     requires { Held s.now buf.old }
     ensures { SortedIs s.now buf.old buf.new }
 {
-    let mut i = 0;
-    while i < buf.len() {
+    for i in 0..buf.len() {
         settle(s, buf, i);
-        i += 1;
     }
 }

@@ -1,27 +1,27 @@
 // Sorting offsets into message order: blocks of 448, each merged into those before it.
-ghost use Rattle.std.specs.Prelude.{◌≤◌, ◌<◌, length, take};
-ghost use Rattle.sorting.specs.Sort.{Held, Ascends, Block, EndIs, Extends, SortedIs, FirstSorted};
+ghost use Rattle.std.specs.Prelude.{◌≤◌, length, take};
+ghost use Rattle.sorting.specs.Sort.{Held, Ascends, Block, Extends, SortedIs, FirstSorted};
 
 use crate::merge::merge;
 use crate::runs::{merge_runs, settle_runs};
 use heard::compare::is_before;
+use std::cmp::min;
 
 // Whether they are in order already.
 fn ascends(s: &[u8], buf: &[usize]) -> bool
     requires { Held s.now buf.now }
     ensures { Ascends s.now buf.now result }
 {
-    let mut i = 1;
-    while i < buf.len() {
+    for i in 1..buf.len() {
         if is_before(s, buf[i], buf[i - 1]) {
             return false;
         }
-        i += 1;
     }
     true
 }
 
 // At most 448: in runs of 7, and these merged to longer ones.
+// Kept: the width doubles.
 fn sort_block(s: &[u8], buf: &mut [usize], spare: &mut [usize])
     requires { Block s.now buf.old spare.old }
     ensures { SortedIs s.now buf.old buf.new }
@@ -43,17 +43,6 @@ fn extend(s: &[u8], buf: &mut [usize], m: usize, spare: &mut [usize])
     merge(s, buf, m, spare);
 }
 
-// Where a block ends that starts at m, of n in all.
-fn block_end(m: usize, n: usize) -> usize
-    requires { m < n }
-    ensures { EndIs m n result }
-{
-    if n - m <= 448 {
-        return n;
-    }
-    m + 448
-}
-
 // Offsets in message order.
 pub fn sort(s: &[u8], buf: &mut [usize])
     requires { Held s.now buf.old }
@@ -63,11 +52,9 @@ pub fn sort(s: &[u8], buf: &mut [usize])
         return;
     }
     let mut spare = [0usize; 448];
-    let mut m = 0;
-    while m < buf.len() {
-        let e = block_end(m, buf.len());
+    for m in (0..buf.len()).step_by(448) {
+        let e = min(m + 448, buf.len());
         extend(s, &mut buf[..e], m, &mut spare[..]);
-        m = e;
     }
 }
 

@@ -10,7 +10,7 @@ use mir.Syntax.{w8}
 use mir.Val.{Fits}
 use lib.ListN.{length, get_or, take, drop, length-drop}
 use lib.Seq.{take-add, take-take, drop-drop, drop_at, length-take-le}
-use Rattle.order.specs.declared.Ordering.{Ordering}
+use Rattle.std.specs.declared.cmp.Ordering.{Ordering}
 use Rattle.order.specs.Comparison.{bytes}
 use Rattle.order.specs.Walk.{emit}
 use Rattle.order.proofs.Comparison.{strings}

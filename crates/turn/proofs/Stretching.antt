@@ -5,7 +5,7 @@ use mathlib.Core.List.{[], ◌∷◌, ◌++◌, append_assoc}
 use mathlib.Core.Bool.{Bool, true, false, cond}
 use native.Mathlib.Omega.{arith}
 use mir.Syntax.{w8, w64}
-use mir.Val.{Fits}
+use mir.Val.{Fits, bool_byte}
 use borrow.Author.Tests.{eq-eqb, ne_eqb}
 use lib.ListN.{length, get_or, take, drop, length-append, length-drop}
 use lib.Seq.{take_at}
@@ -49,13 +49,13 @@ pub ruleset fronts_at = (front_at_lem)
 
 -- ---- withdraws
 
-pub gone_one : (tag : ℕ) → tag % 16 ≡ 2 → 1 ≡ gone_of tag
+gone_byte : (tag : ℕ) → bool_byte (is_withdrawn tag) ≡ gone_of tag
 unfolding gone_of
-gone_one tag e = rw (eq-eqb (tag % 16) 2 e)
-
-pub gone_none : (tag : ℕ) → (tag % 16 ≡ 2 → ⊥) → 0 ≡ gone_of tag
-unfolding gone_of
-gone_none tag e = rw (ne_eqb (tag % 16) 2 e)
+gone_byte tag = go (is_withdrawn tag)
+  where
+    go : (b : Bool) → bool_byte b ≡ cond b 1 0
+    go true = refl
+    go false = refl
 
 pub gone_low : (tag k : ℕ) → k ≡ gone_of tag → k ≤ 1
 unfolding gone_of
@@ -64,8 +64,6 @@ gone_low tag k e = rw e (go (is_withdrawn tag))
     go : (t : Bool) → cond t 1 0 ≤ 1
     go true = omega arith
     go false = omega arith
-
-pub ruleset goings = (gone_one, gone_none)
 
 -- ---- change_size
 
@@ -170,10 +168,11 @@ module _ (s : Bytes) (from bound at announced withdrawn : ℕ) (l : Stretching s
           let t : get_or item.key 0 0 * 16 + digit item.val ≡ get_or s at 0 = ap (λ (c : Cell). c.tag) b ∙ sym g.is in
           ap (λ (n : ℕ). cond (is_withdrawn n) 1 0) (sym t) ∙ agree_withdrawn (get_or item.key 0 0) item.val
 
-      pub stretch_more : (v : ℕ) → v ≡ front_at s at → v < bound → (k : ℕ) → k ≡ gone_of (get_or s at 0) → (n : ℕ) → n ≡ 3 + two_at s (at + 1) →
+      pub stretch_more : (v : ℕ) → v ≡ front_at s at → v < bound → (b : Bool) → b ≡ is_withdrawn (get_or s at 0) → (k : ℕ) → k ≡ bool_byte b → (n : ℕ) → n ≡ 3 + two_at s (at + 1) →
           Stretching s from bound (at + n) (announced + (1 - k)) (withdrawn + k)
       unfolding front_at
-      stretch_more v e q k ek n d =
+      stretch_more v e q b eb k eq n d =
+          let ek : k ≡ gone_of (get_or s at 0) = eq ∙ ap bool_byte eb ∙ gone_byte (get_or s at 0) in
           let z : at + n ≡ next Delta s at l.ready.good stretch_in = omega (arith, d, g.size) in
           let y : get_or s at 0 / 16 ≡ kind_of Delta g.tag = ap (λ (x : ℕ). x / 16) g.is ∙ sym (delta_kind g.tag g.body g.good) in
           let w : v ≡ front_key item.key = e ∙ rw y (sym (front_is Delta s at l.ready.good stretch_in o (omega arith))) in

@@ -41,6 +41,7 @@ fn size_at(s: &[u8], at: usize) -> usize
 }
 
 // Past the items from `start` on whose fronts are below a bound.
+// Kept: as `seek_changes`, but that a delta's tag also says what to count; one loop for both would ask it of each field.
 pub fn seek(s: &[u8], start: usize, bound: usize) -> Sought
     requires { Ready Announced s.now start }
     ensures { Seeks s.now start bound result.at result.count }

@@ -4,8 +4,8 @@ ghost use Rattle.field.specs.If.{If};
 ghost use Rattle.item.specs.Reading.{Ready};
 ghost use Rattle.turn.specs.Skip.{SameAt, Agrees, Common, Skips};
 
-use item::reading::Reading;
-use number::{lower, two_at, word_at};
+use item::reading::{Reading, Run};
+use number::{two_at, word_at};
 
 // Whether eight bytes are equal.
 fn same_eight(a: &[u8], i: usize, b: &[u8], j: usize) -> bool
@@ -18,11 +18,12 @@ fn same_eight(a: &[u8], i: usize, b: &[u8], j: usize) -> bool
 }
 
 // How many bytes of a from i on and of b from j on are equal, in eights.
+// Kept: eight bytes a turn.
 fn agree(a: &[u8], i: usize, b: &[u8], j: usize) -> usize
     requires { (i ≤ length a.now) × (j ≤ length b.now) }
     ensures { Agrees a.now i b.now j result }
 {
-    let n = lower(a.len() - i, b.len() - j);
+    let n = (a.len() - i).min(b.len() - j);
     let mut k = 0;
     while 8 <= n - k {
         if !same_eight(a, i + k, b, j + k) {
@@ -55,16 +56,16 @@ fn whole(a: &[u8], i: usize, b: &[u8], j: usize, m: usize) -> usize
 }
 
 // How far both sides can be passed over at once: only a difference of snapshots is.
-pub fn skip(ra: Reading, a: &[u8], i: usize, rb: Reading, b: &[u8], j: usize) -> usize
-    requires { Ready ra a.now i × Ready rb b.now j }
-    ensures { Skips ra a.now i rb b.now j result }
+pub fn skip(a: Run, i: usize, b: Run, j: usize) -> usize
+    requires { Ready a.reading a.bytes.now i × Ready b.reading b.bytes.now j }
+    ensures { Skips a.entry.reading a.entry.bytes.now i b.entry.reading b.entry.bytes.now j result }
 {
-    let Reading::Withdrawn = ra else {
+    let Reading::Withdrawn = a.reading else {
         return 0;
     };
-    let Reading::Announced = rb else {
+    let Reading::Announced = b.reading else {
         return 0;
     };
-    let m = agree(a, i, b, j);
-    whole(a, i, b, j, m)
+    let m = agree(a.bytes, i, b.bytes, j);
+    whole(a.bytes, i, b.bytes, j, m)
 }

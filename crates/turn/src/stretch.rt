@@ -3,10 +3,11 @@ ghost use Rattle.std.specs.Prelude.{◌≡◌, ◌+◌, ◌<◌, ◌≤◌, leng
 ghost use Rattle.number.specs.Number.{two_at};
 ghost use Rattle.item.specs.declared.reading.Reading.TheVariants.{Changes};
 ghost use Rattle.item.specs.Reading.{Ready};
-ghost use Rattle.turn.specs.Stretch.{front_at, gone_of, Stretches};
+ghost use Rattle.turn.specs.Stretch.{front_at, Stretches};
 
 use item::front::front_in;
 use number::{two_at, word_at};
+use payload::withdraws;
 
 // Where it ends, and how many of its items announce and withdraw.
 #[derive(Clone, Copy)]
@@ -22,16 +23,6 @@ fn change_front(s: &[u8], at: usize) -> usize
     ensures { result ≡ front_at s.now at }
 {
     front_in(s[at] / 16, word_at(s, at + 3))
-}
-
-// How many items a tag withdraws: one, or none.
-fn withdraws(tag: u8) -> usize
-    ensures { result ≡ gone_of tag }
-{
-    if tag % 16 == 2 {
-        return 1;
-    }
-    0
 }
 
 // The size of a delta's field. An origin has 26 bytes: the next field does not wait for its length.
@@ -64,7 +55,7 @@ pub fn seek_changes(s: &[u8], start: usize, bound: usize) -> Stretch
                 withdrawn,
             };
         }
-        let gone = withdraws(s[at]);
+        let gone = usize::from(withdraws(s[at]));
         announced += 1 - gone;
         withdrawn += gone;
         at += change_size(s, at);

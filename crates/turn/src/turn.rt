@@ -4,8 +4,8 @@ ghost use Rattle.turn.specs.Turn.{TurnIs};
 
 use field::key::key_compare;
 use item::place::Entry;
-use item::reading::{Read, Reading, read_at};
-use order::Ordering;
+use item::reading::Run;
+use std::cmp::Ordering;
 
 #[derive(Clone, Copy)]
 pub enum Side {
@@ -22,19 +22,20 @@ pub enum Turn {
     Both(Entry, Entry),
 }
 
-pub fn take_turn(ra: Reading, a: &[u8], i: usize, rb: Reading, b: &[u8], j: usize) -> Turn
-    requires { Ready ra a.now i × Ready rb b.now j }
-    ensures { TurnIs ra a.now i rb b.now j result }
+// The turn where the one run stands at i and the other at j.
+pub fn take_turn(a: Run, i: usize, b: Run, j: usize) -> Turn
+    requires { Ready a.reading a.bytes.now i × Ready b.reading b.bytes.now j }
+    ensures { TurnIs a.entry.reading a.entry.bytes.now i b.entry.reading b.entry.bytes.now j result }
 {
-    let Read::One(x) = read_at(ra, a, i) else {
+    let Some(x) = a.read(i) else {
         return Turn::Over(Side::Right);
     };
-    let Read::One(y) = read_at(rb, b, j) else {
+    let Some(y) = b.read(j) else {
         return Turn::Over(Side::Left);
     };
     let p = x.key;
     let q = y.key;
-    match key_compare(a, p, b, q) {
+    match key_compare(a.bytes, p, b.bytes, q) {
         Ordering::Less => Turn::Left(x),
         Ordering::Equal => Turn::Both(x, y),
         Ordering::Greater => Turn::Right(y),

@@ -11,8 +11,8 @@ use mir.Val.{Fits}
 use lib.Dec.{ltb, eqb}
 use lib.ListN.{length, get_or, drop, length-take, length-drop}
 use lib.Seq.{get_or-take, get_or-drop}
-use Rattle.order.specs.declared.Ordering.{Ordering}
-use Rattle.order.specs.declared.Ordering.TheVariants.{Less, Equal, Greater}
+use Rattle.std.specs.declared.cmp.Ordering.{Ordering}
+use Rattle.std.specs.declared.cmp.Ordering.TheVariants.{Less, Equal, Greater}
 use Rattle.order.specs.Comparison.{or_else, number, bytes, is_less}
 use Rattle.order.proofs.Comparison.{number_less, number_equal, number_greater}
 use Rattle.number.specs.Number.{two_at, four_at, word_at}
@@ -193,16 +193,12 @@ module _ (p q : Words) where
       below_last : q.third ≤ p.third → p.third ≤ q.third → ltb p.last q.last ≡ below_words p q
       unfolding below_words
       below_last n o =
-          rw (one, two, number_equal p.third q.third (omega arith)) (go (ltb p.last q.last) (ltb q.last p.last))
+          rw (one, two, number_equal p.third q.third (omega arith)) (go (ltb p.last q.last) (eqb p.last q.last))
         where
-          go : (s t : Bool) → s ≡ is_less (cond s Less (cond t Greater Equal))
+          go : (s t : Bool) → s ≡ is_less (cond s Less (cond t Equal Greater))
           go true t = refl
           go false true = refl
           go false false = refl
-
-pub three_is : (s : List ℕ) (at x y z : ℕ) → x ≡ word_at s at → y ≡ word_at s (at + 8) → z ≡ word_at s (at + 16) →
-    ◌≡◌ {A = Words} (record { first = x; second = y; third = z; last = 0 }) (three_at s at)
-three_is s at x y z a b c = λ i. record { first = a i; second = b i; third = c i; last = 0 }
 
 -- the same for a field and the one before it, by their first three words
 module _ (s : List ℕ) (at : ℕ) (before field : Words) (i : Neighbours s at before field) where

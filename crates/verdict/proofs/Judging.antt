@@ -1,13 +1,14 @@
 -- The check of a run of fields as the loop makes it.
 use Prim.Native.Nat.{ℕ, zero, suc, ◌+◌, ◌-◌, ◌<◌, ◌≤◌}
-use mathlib.Core.Path.{◌≡◌, refl, sym, ◌∙◌}
+use mathlib.Core.Logic.{◌⊎◌, inl, inr}
+use mathlib.Core.Path.{◌≡◌, ap, refl, sym, ◌∙◌}
 use mathlib.Core.List.{List}
 use mathlib.Core.Bool.{Bool, true, false, not, cond, ◌&&◌}
 use native.Mathlib.Omega.{arith}
 use borrow.Author.Tests.{not-true, not-false}
 use lib.ListN.{length, drop, length-drop, length-take}
-use Rattle.order.specs.declared.Ordering.{Ordering}
-use Rattle.order.specs.declared.Ordering.TheVariants.{Less, Equal, Greater}
+use Rattle.std.specs.declared.cmp.Ordering.{Ordering}
+use Rattle.std.specs.declared.cmp.Ordering.TheVariants.{Less, Equal, Greater}
 use Rattle.order.specs.Comparison.{bytes}
 use Rattle.number.specs.Bytes.{part}
 use Rattle.body.specs.declared.tag.Form.{Form}
@@ -22,8 +23,6 @@ use Rattle.body.proofs.Sizes.{both}
 use Rattle.field.specs.declared.head.Field.{Field}
 use Rattle.field.specs.declared.head.Field.TheVariants.{End, Cut, Whole}
 use Rattle.field.specs.declared.key.Key.{Key}
-use Rattle.field.specs.declared.verdict.Verdict.{Verdict}
-use Rattle.field.specs.declared.verdict.Verdict.TheVariants.{Fine, Bad, Senseless, NotAbove}
 use Rattle.field.specs.Head.{front, field_at}
 use Rattle.field.specs.Verdict.{judge, verdict_f, verdict}
 use Rattle.field.specs.Places.{key_in, key_place}
@@ -31,6 +30,10 @@ use Rattle.field.proofs.Fields.{end_at_lem, cut_at, whole_at, body_ordered, body
 use Rattle.field.proofs.Keys.{key_in_lem}
 use Rattle.verdict.specs.Progress.{refused_at, Refuses}
 pub use Rattle.verdict.specs.Progress.{Judged}
+use Rattle.field.specs.declared.verdict.Flaw.TheVariants as flaw
+use Rattle.field.specs.declared.verdict.Flaw.{Flaw}
+use Rattle.field.specs.Verdict.{Verdict}
+use Rattle.std.specs.Prelude.{Err, Ok}
 
 pub judged_start : (form : Form) (s : List ℕ) → Judged form s 0 (record { kind = 0; from = 0; to = 0 })
 unfolding verdict
@@ -54,23 +57,23 @@ module _ (form : Form) (s : List ℕ) (at : ℕ) (k : Key) (j : Judged form s at
       go (suc n) h e = (n, omega arith, e)
 
   module _ (r : Field) (f : r ≡ field_at s at) where
-    pub judged_end : r ≡ End → Fine ≡ verdict form s
+    pub judged_end : r ≡ End → (Ok tt) ≡ verdict form s
     unfolding judge
     judged_end e = rw (end_at_lem s at r f e) at turn.2
 
-    pub judged_cut : r ≡ Cut → Bad at ≡ verdict form s
+    pub judged_cut : r ≡ Cut → Err (flaw.Bad at) ≡ verdict form s
     unfolding judge
     judged_cut e = rw (cut_at s at r f e) at turn.2
 
     module _ (tag from to : ℕ) (e : r ≡ Whole tag from to) (b : Bool) (g : b ≡ sound form tag (part s from to)) where
       -- not both good and sensible
-      pub judged_refused : not b ≡ true → (v : Verdict) → Refuses form tag (part s from to) at v → v ≡ verdict form s
+      pub judged_refused : not b ≡ true → (v : Flaw) → Refuses form tag (part s from to) at v → Err v ≡ verdict form s
       unfolding judge sound
       judged_refused t v w =
           let x = whole_at s at r f tag from to e in
-          w.is (sym g ∙ not-true b t) ∙ go (good_body form tag (part s from to)) (sensible form tag (part s from to)) _ (sym (not-true b t) ∙ g) ∙ (rw x.reads at turn.2)
+          ap (λ f. Err f) (w.is (sym g ∙ not-true b t)) ∙ go (good_body form tag (part s from to)) (sensible form tag (part s from to)) _ (sym (not-true b t) ∙ g) ∙ (rw x.reads at turn.2)
         where
-          go : (c d : Bool) (y : Verdict) → false ≡ c && d → refused_at c at ≡ cond c (cond d y (Senseless at)) (Bad at)
+          go : (c d : Bool) (y : Verdict) → false ≡ c && d → Err (refused_at c at) ≡ cond c (cond d y (Err (flaw.Senseless at))) (Err (flaw.Bad at))
           go true true y q = cc
           go true false y q = refl
           go false d y q = refl
@@ -83,19 +86,22 @@ module _ (form : Form) (s : List ℕ) (at : ℕ) (k : Key) (j : Judged form s at
         found : judge form at (key_in s k) (front (drop at s)) (verdict_f form turn.0) ≡ verdict form s
         found = turn.2
 
-        pub judged_equal : o ≡ Equal → NotAbove at ≡ verdict form s
+        judged_equal : o ≡ Equal → Err (flaw.NotAbove at) ≡ verdict form s
         unfolding judge
         judged_equal u =
             let w = whole_at s at r f tag from to e in
             let i = key_in_lem s kind from to w.ordered w.within key p in
             rw (w.reads, parts.0, parts.1, ← m, ← i, ← l, u) at found
 
-        pub judged_greater : o ≡ Greater → NotAbove at ≡ verdict form s
+        judged_greater : o ≡ Greater → Err (flaw.NotAbove at) ≡ verdict form s
         unfolding judge
         judged_greater u =
             let w = whole_at s at r f tag from to e in
             let i = key_in_lem s kind from to w.ordered w.within key p in
             rw (w.reads, parts.0, parts.1, ← m, ← i, ← l, u) at found
+
+        pub judged_not_above : (o ≡ Equal) ⊎ (o ≡ Greater) → Err (flaw.NotAbove at) ≡ verdict form s
+        judged_not_above u = elim u [ inl e ↦ judged_equal e | inr e ↦ judged_greater e ]
 
         pub judged_next : o ≡ Less → Judged form s to key
         unfolding judge
@@ -116,10 +122,10 @@ module _ (form : Form) (s : List ℕ) (at : ℕ) (k : Key) (j : Judged form s at
 -- ---- refused
 
 module _ (action : Action) (b : List ℕ) (at : ℕ) (v : Bool) (e : v ≡ good_aspa_body action b) where
-  pub refused_senseless : v ≡ true → Senseless at ≡ refused_at (good_aspa_body action b) at
+  pub refused_senseless : v ≡ true → flaw.Senseless at ≡ refused_at (good_aspa_body action b) at
   refused_senseless d = rw (← e, d)
 
-  pub refused_bad : v ≡ false → Bad at ≡ refused_at (good_aspa_body action b) at
+  pub refused_bad : v ≡ false → flaw.Bad at ≡ refused_at (good_aspa_body action b) at
   refused_bad d = rw (← e, d)
 
 -- what is not sound, and sensible, is not good
@@ -128,23 +134,29 @@ alone true e = e
 alone false e = refl
 
 module _ (form : Form) (tag : ℕ) (b : List ℕ) (at : ℕ) (t : Tag) (e : t ≡ tag_of form tag) where
-  pub refused_unknown : t ≡ Unknown → Refuses form tag b at (Bad at)
+  refused_unknown : t ≡ Unknown → Refuses form tag b at (flaw.Bad at)
   unfolding good_body
   refused_unknown d = record { is = λ n. rw (← e, d) }
 
   module _ (action : Action) where
-    pub refused_origin : t ≡ Origin action → Refuses form tag b at (Bad at)
+    refused_origin : t ≡ Origin action → Refuses form tag b at (flaw.Bad at)
     unfolding sound sensible good_body
     refused_origin d = record { is = λ n. let z : good_origin b ≡ false = alone (good_origin b) (rw (← e, d) at n) in rw (← e, d, z) }
 
-    pub refused_key : t ≡ RouterKey action → Refuses form tag b at (Bad at)
+    refused_key : t ≡ RouterKey action → Refuses form tag b at (flaw.Bad at)
     unfolding sound sensible good_body
     refused_key d = record { is = λ n. let z : good_router_key b ≡ false = alone (good_router_key b) (rw (← e, d) at n) in rw (← e, d, z) }
 
-    pub refused_aspa : (v : Verdict) → t ≡ Aspa action → v ≡ refused_at (good_aspa_body action b) at → Refuses form tag b at v
+    pub refused_aspa : (v : Flaw) → t ≡ Aspa action → v ≡ refused_at (good_aspa_body action b) at → Refuses form tag b at v
     unfolding good_body
     refused_aspa v d q = record { is = λ n. rw (← e, d) q }
 
-pub ruleset refusing = (refused_senseless, refused_bad, refused_unknown, refused_origin, refused_key, refused_aspa)
+  pub refused_plain : (t ≡ Unknown) ⊎ (((a : Action) × (t ≡ Origin a)) ⊎ ((a : Action) × (t ≡ RouterKey a))) → Refuses form tag b at (flaw.Bad at)
+  refused_plain d = elim d [
+    | inl u ↦ refused_unknown u
+    | inr r ↦ elim r [ inl o ↦ refused_origin o.0 o.1 | inr k ↦ refused_key k.0 k.1 ]
+  ]
 
-pub ruleset judging = (judged_start, judged_end, judged_cut, judged_refused, judged_equal, judged_greater, judged_next, field_less, body_ordered, body_within)
+pub ruleset refusing = (refused_senseless, refused_bad, refused_plain, refused_aspa)
+
+pub ruleset judging = (judged_start, judged_end, judged_cut, judged_refused, judged_not_above, judged_next, field_less, body_ordered, body_within)

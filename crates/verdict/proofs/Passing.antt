@@ -7,7 +7,7 @@ use native.Mathlib.Omega.{arith}
 use borrow.Author.Tests.{not-false}
 use lib.Dec.{eqb}
 use lib.ListN.{length, get_or, length-take, length-drop}
-use Rattle.order.specs.declared.Ordering.TheVariants.{Less}
+use Rattle.std.specs.declared.cmp.Ordering.TheVariants.{Less}
 use Rattle.order.specs.Comparison.{bytes}
 use Rattle.order.proofs.Comparison.{number_less, number_equal}
 use Rattle.number.specs.Number.{four_at}
@@ -61,11 +61,6 @@ origin_sense form tag b e = go (tag_of form tag) e
     go (Origin action) d = refl
     go (RouterKey action) d = refl
     go (Aspa action) d = absurd (omega arith)
-
--- ---- behind
-
-pub behind_is : (kind from to : ℕ) (key : Key) → key ≡ key_place kind from to → ◌≡◌ {A = Stand} (record { at = to; before = key }) (stand_behind kind from to)
-behind_is kind from to key e = λ i. record { at = to; before = e i }
 
 -- ---- pass_origins
 

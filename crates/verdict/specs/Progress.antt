@@ -6,12 +6,12 @@ use Rattle.body.specs.Tag.{kind_of, good_body, sensible}
 use Rattle.body.specs.Sound.{sound}
 use Rattle.field.specs.declared.key.Key.{Key}
 use Rattle.field.specs.declared.head.Field.TheVariants.{Whole}
-use Rattle.field.specs.declared.verdict.Verdict.{Verdict}
-use Rattle.field.specs.declared.verdict.Verdict.TheVariants.{Bad, Senseless}
 use Rattle.field.specs.Places.{key_in, key_place}
 use Rattle.field.specs.Head.{field_at}
 use Rattle.field.specs.Verdict.{verdict_f, verdict}
 use Rattle.verdict.specs.declared.pass.Stand.{Stand}
+use Rattle.field.specs.declared.verdict.Flaw.TheVariants as flaw
+use Rattle.field.specs.declared.verdict.Flaw.{Flaw}
 
 -- what the check has found at `at`, behind the key k: the rest decides
 pub record Judged (form : Form) (s : List ℕ) (at : ℕ) (k : Key) : Type 0 where
@@ -25,11 +25,11 @@ abbrev pub stand_behind : ℕ → ℕ → ℕ → Stand
 stand_behind kind from to = record { at = to; before = key_place kind from to }
 
 -- the refusal of the field at `at`, whose body is not both good and sensible, by whether it is good
-abbrev pub refused_at : Bool → ℕ → Verdict
-refused_at good at = cond good (Senseless at) (Bad at)
+abbrev pub refused_at : Bool → ℕ → Flaw
+refused_at good at = cond good (flaw.Senseless at) (flaw.Bad at)
 
 -- v is the refusal of the field at `at` with this tag and body, unless it is sound
-pub record Refuses (form : Form) (tag : ℕ) (b : List ℕ) (at : ℕ) (v : Verdict) : Type 0 where
+pub record Refuses (form : Form) (tag : ℕ) (b : List ℕ) (at : ℕ) (v : Flaw) : Type 0 where
   pub is : sound form tag b ≡ false → v ≡ refused_at (good_body form tag b) at
 
 -- at `at` stands a good field of this kind that makes sense, and it ends at `to`

@@ -25,7 +25,9 @@ fn behind(kind: u8, from: usize, to: usize) -> Stand
 }
 
 // Behind an origin that ends at `start`, past the good ascending origins but the last. The words of a field are read one
-// turn before they are judged: judged in the same turn they would be read byte by byte.
+// turn before they are judged: judged in the same turn they would be read byte by byte. It is not inlined, since the values of
+// `check` would take registers from the loop.
+#[inline(never)]
 fn pass_origins(form: Form, s: &[u8], start: usize) -> Stand
     requires { (26 ≤ start) × Judged form s.now start (key_place 1 (start - 23) start) }
     ensures { Further form s.now start result }
@@ -48,6 +50,7 @@ fn pass_origins(form: Form, s: &[u8], start: usize) -> Stand
 }
 
 // Where the field at `at` ends, if it is a good one of this kind that makes sense; else `at`.
+// Kept: `at` for none, so that one test in the loop also keeps four bytes of the next body within the slice.
 fn good_end(form: Form, kind: u8, s: &[u8], at: usize) -> usize
     ensures { Reaches form kind s.now at result }
 {

@@ -8,8 +8,8 @@ use mir.Syntax.{w8}
 use mir.Val.{Fits}
 use lib.ListN.{length, get_or, drop, length-append}
 use lib.Seq.{sets}
-use Rattle.order.specs.declared.Ordering.{Ordering}
-use Rattle.order.specs.declared.Ordering.TheVariants.{Less, Equal, Greater}
+use Rattle.std.specs.declared.cmp.Ordering.{Ordering}
+use Rattle.std.specs.declared.cmp.Ordering.TheVariants.{Less, Equal, Greater}
 use Rattle.order.specs.Comparison.{bytes}
 use Rattle.order.specs.Map.{Item}
 use Rattle.order.specs.Walk.{emit}
@@ -32,12 +32,12 @@ use Rattle.payload.proofs.Faithful.{body_bytes}
 use Rattle.item.specs.declared.reading.Reading.{Reading}
 use Rattle.item.specs.declared.reading.Reading.TheVariants.{Withdrawn, Announced, Changes}
 use Rattle.item.specs.declared.sink.Counts.{Counts}
-use Rattle.walk.specs.declared.walk.Output.TheVariants.{Written}
-use Rattle.item.specs.Reading.{form_of, item_as, read_as}
+use Rattle.item.specs.Reading.{form_of, item_as, read_as, Ready}
 use Rattle.item.specs.Write.{cell_as, writes, plus_all, zero}
-use Rattle.walk.specs.Walk.{Runs, merged_as, output_of, whole_out}
+use Rattle.walk.specs.Walk.{Runs, Sizes, merged_as, output_of, whole_out}
 use Rattle.item.proofs.Readings.{says_nil, says_cons}
 use Rattle.walk.proofs.Walking.{whole_fits, whole_bytes}
+use Rattle.std.specs.Prelude.{Some}
 
 abbrev D : Type 0
 D = change.Delta Bytes Bytes
@@ -140,21 +140,24 @@ run_length reading form (more {s = s} tag b rest f g z l r) o =
     rw (says_cons s c rest reading (cells_more s tag b rest f))
     (omega (arith, v, cons_length form (item_as reading c) (read_as reading rest), run_length reading form r (rest_bytes s tag b rest o w), shorter s tag b rest f))
 
+-- ---- size_of
+
+pub sized : (reading : Reading) (s : Bytes) → Ready reading s 0 → ((n : ℕ) → Fits w8 (get_or s n 0)) → Sizes reading s (length s)
+sized reading s r o = record { is = refl; written = λ form. run_length reading form r.good.run (λ n. (o n).fits) }
+
+pub ruleset sizing = (sized)
+
 -- ---- put_whole, where there is surely room
 
-module _ (form : Form) (ra : Reading) (a : Bytes) (rb : Reading) (b : Bytes) (r : Runs ra a rb b) where
-  pub sum_fits : length a + length b < 2 ^ 64
-  sum_fits = omega (arith, r.short_a, r.short_b)
+module _ (form : Form) (ra : Reading) (a : Bytes) (rb : Reading) (b : Bytes) (m n : ℕ) (x : Sizes ra a m) (y : Sizes rb b n) where
+  pub sum_fits : Runs ra a rb b → m + n < 2 ^ 64
+  sum_fits r = omega (arith, x.is, y.is, r.short_a, r.short_b)
 
-  module _ (o : (n : ℕ) → Fits w8 (get_or a n 0)) (u : (n : ℕ) → Fits w8 (get_or b n 0)) (c : Counts) (e : c ≡ plus_all form zero (merged_as ra a rb b))
-      (out : Bytes) (h : length a + length b ≤ length out) where
+  module _ (c : Counts) (e : c ≡ plus_all form zero (merged_as ra a rb b)) (out : Bytes) (h : m + n ≤ length out) where
     fits_in_lem : c.len ≤ length out
-    fits_in_lem =
-        let x : length (writes form (read_as ra a)) ≡ length a = run_length ra form r.good_a.good.run (λ n. (o n).fits) in
-        let y : length (writes form (read_as rb b)) ≡ length b = run_length rb form r.good_b.good.run (λ n. (u n).fits) in
-        rw e (omega (arith, x, y, merge_length form (read_as ra a) (read_as rb b)))
+    fits_in_lem = rw e (omega (arith, x.written form, y.written form, merge_length form (read_as ra a) (read_as rb b)))
 
-    pub sure_fits : Written c ≡ output_of form (merged_as ra a rb b) (length out)
+    pub sure_fits : Some c ≡ output_of form (merged_as ra a rb b) (length out)
     sure_fits = whole_fits form (merged_as ra a rb b) c e out fits_in_lem
 
     pub sure_bytes : (p : Bytes) → p ≡ sets out 0 (writes form (merged_as ra a rb b)) → p ≡ whole_out form (merged_as ra a rb b) out

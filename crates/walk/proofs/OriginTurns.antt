@@ -10,8 +10,8 @@ use mir.Val.{Fits}
 use lib.Dec.{eqb}
 use lib.ListN.{length, get_or, take, drop, length-take, length-drop}
 use lib.Seq.{sets, take_at, drop-cons, length-sets}
-use Rattle.order.specs.declared.Ordering.{Ordering}
-use Rattle.order.specs.declared.Ordering.TheVariants.{Less, Equal, Greater}
+use Rattle.std.specs.declared.cmp.Ordering.{Ordering}
+use Rattle.std.specs.declared.cmp.Ordering.TheVariants.{Less, Equal, Greater}
 use Rattle.order.specs.Comparison.{bytes, number}
 use Rattle.order.specs.Map.{Item}
 use Rattle.order.specs.Walk.{emit}
@@ -36,18 +36,16 @@ use Rattle.payload.specs.Count.{announces, withdraws, sum_of}
 use Rattle.payload.proofs.Back.{says_back}
 use Rattle.item.specs.declared.sink.Counts.{Counts}
 use Rattle.item.specs.declared.reading.Reading.TheVariants.{Changes}
-use Rattle.item.specs.Place.{part_in, Lies}
 use Rattle.item.specs.Reading.{Ready}
 use Rattle.item.specs.Write.{cell_as, writes, plus_all}
 use Rattle.item.proofs.Fronts.{drop_bytes, take_bytes}
-use Rattle.item.proofs.Putting.{counts_path}
-use Rattle.walk.specs.declared.origins.OriginStep.{OriginStep}
-use Rattle.walk.specs.declared.origins.OriginStep.TheVariants.{Other, On}
 use Rattle.turn.specs.Left.{left_of}
 use Rattle.walk.specs.Walk.{Stands, Wrote}
 use Rattle.walk.specs.Origins.{origin_of, OriginAt, OriginCountable, both_origins, BothAt, Turns, OriginStepIs}
 use Rattle.item.proofs.Heres.{here, cell, next, reads, said, behind, within, lies}
 use Rattle.walk.proofs.Walking.{plus_nil, writes_nil, then}
+use Rattle.walk.specs.declared.pass.Stand.{Stand}
+use Rattle.std.specs.Prelude.{None, Option, Some}
 
 -- ---- origin_at
 
@@ -170,32 +168,11 @@ pub ruleset comparing = (compared, compared_left, compared_right)
 -- ---- put_origin
 
 module _ (s : Bytes) (at : ℕ) (x : OriginAt s at) where
-  pub origin_lies : Lies s (record { from = at; to = at + 26 })
-  origin_lies = record { ordered = omega arith; within = x.within }
-
   pub origin_in : at < length s
   origin_in = let w = x.within in omega arith
 
   written_size : length (writes Delta (origin_of s at ∷ [])) ≡ 26
   written_size = ap length x.lies ∙ simp (length-take, length-drop) (let w = x.within in omega arith)
-
-  pub origin_bytes : (o p : Bytes) (n : ℕ) → p ≡ sets o n (part_in s (record { from = at; to = at + 26 })) → p ≡ sets o n (writes Delta (origin_of s at ∷ []))
-  origin_bytes o p n e =
-      let z : at + 26 - at ≡ 26 = omega arith in
-      e ∙ ap (sets o n) (ap (λ (m : ℕ). take m (drop at s)) z ∙ sym x.lies)
-
-  module _ (c : Counts) where
-    pub count_new : get_or s at 0 ≡ 0x11 → record { len = c.len + 26; announced = c.announced + 1; withdrawn = c.withdrawn } ≡ plus_all Delta c (origin_of s at ∷ [])
-    count_new e =
-        let z : (origin_of s at).val ≡ announce [] = ap (λ (t : Bool). cond t (announce []) (withdraw [])) (eq-eqb (get_or s at 0) 0x11 e) in
-        counts_path (omega (arith, written_size)) (omega (arith, ap announces z)) (omega (arith, ap withdraws z))
-
-    pub count_gone : (get_or s at 0 ≡ 0x11 → ⊥) → record { len = c.len + 26; announced = c.announced; withdrawn = c.withdrawn + 1 } ≡ plus_all Delta c (origin_of s at ∷ [])
-    count_gone n =
-        let z : (origin_of s at).val ≡ withdraw [] = ap (λ (t : Bool). cond t (announce []) (withdraw [])) (ne_eqb (get_or s at 0) 0x11 n) in
-        counts_path (omega (arith, written_size)) (omega (arith, ap announces z)) (omega (arith, ap withdraws z))
-
-pub ruleset putting = (origin_lies, origin_in, origin_bytes, count_new, count_gone)
 
 -- ---- put_same
 
@@ -243,13 +220,6 @@ pub ruleset same = (turns_left, turns_room, same_in_a, same_in_b, apart_counts, 
 
 -- ---- origin_turn
 
-pub both_here : (a : Bytes) (i : ℕ) (b : Bytes) (j : ℕ) (c : Counts) → Ready Changes a i → Ready Changes b j → OriginCountable c → (r : Bool) → If r (BothAt a i b j) → not r ≡ false
-    → Turns a i b j c
-both_here a i b j c x y n r f e = record { both = f.holds (not-false r e); ready_a = x; ready_b = y; room = n }
-
-pub turn_none : (a : Bytes) (i : ℕ) (b : Bytes) (j : ℕ) (c : Counts) (o : Bytes) → OriginStepIs a i b j c o o Other
-turn_none a i b j c o = record { is = refl }
-
 abbrev left_of_lem : Bytes → ℕ → Bytes → ℕ → change.Delta Bytes Bytes
 left_of_lem a i b j = left_of Changes a i Changes b j
 
@@ -288,7 +258,7 @@ module _ (a : Bytes) (i : ℕ) (b : Bytes) (j : ℕ) (c : Counts) (u : Turns a i
         ∙ walk_less bytes (merge_at bytes) (origin_of a i) (changes (drop (i + 26) a)) (origin_of b j) (changes (drop (j + 26) b)) (sym e ∙ d)
         ∙ ap (λ (l : change.Delta Bytes Bytes). origin_of a i ∷ merge bytes bytes (changes (drop (i + 26) a)) l) (sym y.is)
 
-    pub turn_less : OriginStepIs a i b j c o o' (On (i + 26) j c')
+    pub turn_less : OriginStepIs a i b j c o o' (Some (record { left = i + 26; right = j; counts = c' }))
     turn_less =
         let n = few_new a i in
         record {
@@ -317,7 +287,7 @@ module _ (a : Bytes) (i : ℕ) (b : Bytes) (j : ℕ) (c : Counts) (u : Turns a i
         ∙ walk_greater bytes (merge_at bytes) (origin_of a i) (changes (drop (i + 26) a)) (origin_of b j) (changes (drop (j + 26) b)) (sym e ∙ d)
         ∙ ap (λ (l : change.Delta Bytes Bytes). origin_of b j ∷ merge bytes bytes l (changes (drop (j + 26) b))) (sym x.is)
 
-    pub turn_greater : OriginStepIs a i b j c o o' (On i (j + 26) c')
+    pub turn_greater : OriginStepIs a i b j c o o' (Some (record { left = i; right = j + 26; counts = c' }))
     turn_greater =
         let n = few_new b j in
         record {
@@ -359,7 +329,7 @@ module _ (a : Bytes) (i : ℕ) (b : Bytes) (j : ℕ) (c : Counts) (u : Turns a i
         go true q = let n = few_new a i in record { len = rw q (omega (arith, written_size a i x)); announced = rw q (omega (arith, n.0)); withdrawn = rw q (omega (arith, n.1)) }
         go false q = record { len = rw q (omega arith); announced = rw q (omega arith); withdrawn = rw q (omega arith) }
 
-    pub turn_equal : OriginStepIs a i b j c o o' (On (i + 26) (j + 26) c')
+    pub turn_equal : OriginStepIs a i b j c o o' (Some (record { left = i + 26; right = j + 26; counts = c' }))
     turn_equal =
         let n = small in
         record {
@@ -382,8 +352,6 @@ module _ (a : Bytes) (i : ℕ) (b : Bytes) (j : ℕ) (c : Counts) (u : Turns a i
         }
 
 pub ruleset turning = (turns_both, turns_left, turns_right, turns_room, turn_less, turn_greater, turn_equal)
-
-pub ruleset turns = (both_here, turn_none)
 
 -- ---- put_origins
 
@@ -431,24 +399,24 @@ module _ (a : Bytes) (i₀ : ℕ) (b : Bytes) (j₀ : ℕ) (c₀ : Counts) (o₀
         withdrawn = rw w.counts (omega (arith, s.withdrawn, w.withdrawn, s.short_a, s.short_b));
       }
 
-  module _ (o' : Bytes) (t : OriginStep) (h : OriginStepIs a i b j c o o' t) where
-    pub merged_end : t ≡ Other → Wrote Delta Changes a i₀ Changes b j₀ c₀ o₀ o' i j c
+  module _ (o' : Bytes) (t : Option Stand) (h : OriginStepIs a i b j c o o' t) where
+    pub merged_end : t ≡ None → Wrote Delta Changes a i₀ Changes b j₀ c₀ o₀ o' i j c
     merged_end e = let z : o' ≡ o = rw e at h.is in rw z m.wrote
 
-    pub merged_long : t ≡ Other → length o' ≡ length o₀
+    pub merged_long : t ≡ None → length o' ≡ length o₀
     merged_long e = let z : o' ≡ o = rw e at h.is in ap length z ∙ m.len
 
-    module _ (p q : ℕ) (c' : Counts) (e : t ≡ On p q c') where
-      pub merged_again : Merged a i₀ b j₀ c₀ o₀ o' p q c'
+    module _ (n : Stand) (e : t ≡ Some n) where
+      pub merged_again : Merged a i₀ b j₀ c₀ o₀ o' n.left n.right n.counts
       merged_again =
           let w = (rw e at h.is) in
           record {
             start = m.start;
             len = ap length w.0.laid ∙ length-sets o c.len (writes Delta w.0.written) ∙ m.len;
-            wrote = then Delta Changes a i₀ Changes b j₀ c₀ o₀ o i j c m.wrote o' p q c' w.0;
+            wrote = then Delta Changes a i₀ Changes b j₀ c₀ o₀ o i j c m.wrote o' n.left n.right n.counts w.0;
           }
 
-      pub merged_less : length a - p + (length b - q) < length a - i + (length b - j)
+      pub merged_less : length a - n.left + (length b - n.right) < length a - i + (length b - j)
       merged_less = let w = (rw e at h.is) in omega (arith, w.0.on_a, w.0.on_b, w.1, w.0.ready_a.within, w.0.ready_b.within)
 
 pub ruleset merging = (merged_start, merged_left, merged_right, merged_countable, merged_end, merged_long, merged_again, merged_less)

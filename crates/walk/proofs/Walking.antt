@@ -8,7 +8,7 @@ use native.Mathlib.Nat.{zero-add}
 use borrow.Author.Tests.{le-leb, lt-leb}
 use lib.ListN.{length, drop, length-append}
 use lib.Seq.{sets, length-sets, sets-eq}
-use Rattle.order.specs.declared.Ordering.TheVariants.{Equal}
+use Rattle.std.specs.declared.cmp.Ordering.TheVariants.{Equal}
 use Rattle.order.specs.Comparison.{bytes, flip}
 use Rattle.order.specs.Map.{Item, Below}
 use Rattle.order.specs.Walk.{emit, walk}
@@ -27,22 +27,17 @@ use Rattle.payload.specs.Content.{Bytes}
 use Rattle.payload.specs.Limit.{limit}
 use Rattle.payload.specs.Count.{announces, withdraws, sum_of}
 use Rattle.item.specs.declared.place.Act.{Act}
-use Rattle.item.specs.declared.place.Held.{Held}
-use Rattle.item.specs.declared.place.Held.TheVariants.{Nothing, Is}
 use Rattle.item.specs.declared.place.Entry.{Entry}
 use Rattle.item.specs.declared.sink.Counts.{Counts}
 use Rattle.item.specs.declared.reading.Reading.{Reading}
-use Rattle.item.specs.declared.reading.Read.{Read}
-use Rattle.item.specs.declared.reading.Read.TheVariants.{End, One}
 use Rattle.turn.specs.declared.turn.Side.{Side}
 use Rattle.turn.specs.declared.turn.Side.TheVariants as side
 use Rattle.turn.specs.declared.turn.Turn.{Turn}
 use Rattle.turn.specs.declared.turn.Turn.TheVariants.{Over, Left, Right, Both}
 use Rattle.item.specs.Place.{change_in, item_in, ActFits, KeyIn, Holds}
 use Rattle.item.specs.Reading.{read_as, Ready, EntryFits, Reads}
-use Rattle.walk.specs.declared.walk.Step.{Step}
-use Rattle.walk.specs.declared.walk.Step.TheVariants as step
-use Rattle.walk.specs.declared.walk.Output.TheVariants.{NoRoom, Written}
+use Rattle.std.specs.declared.ops.ControlFlow.{ControlFlow}
+use Rattle.std.specs.declared.ops.ControlFlow.TheVariants as flow
 use Rattle.turn.specs.Turn.{TurnIs, TurnMeans}
 use Rattle.item.specs.Write.{field_as, writes, plus_item, plus_all, zero, Countable}
 use Rattle.walk.specs.declared.pass.Stand.{Stand}
@@ -52,6 +47,8 @@ use Rattle.item.proofs.Sinking.{sets_append}
 use Rattle.item.proofs.Tabling.{table_held}
 use Rattle.item.proofs.Putting.{counts_path, field_small}
 use Rattle.turn.proofs.Stretching.{writes_append, sum_append}
+use Rattle.std.specs.Prelude as opt
+use Rattle.std.specs.Prelude.{None, Some}
 
 abbrev D : Type 0
 D = change.Delta Bytes Bytes
@@ -86,27 +83,27 @@ module _ (form : Form) (c : Counts) (x : Item Bytes (Change Bytes)) where
 
 -- ---- put_both
 
-module _ (a b : Bytes) (x y : Entry) (h : Held) (t : Holds a b (table bytes (change_in a a x.act) (change_in b b y.act)) h) where
-  pub both_fits : (act : Act) → h ≡ Is act → ActFits a b act
+module _ (a b : Bytes) (x y : Entry) (h : opt.Option Act) (t : Holds a b (table bytes (change_in a a x.act) (change_in b b y.act)) h) where
+  pub both_fits : (act : Act) → h ≡ Some act → ActFits a b act
   both_fits act e = rw e at t.fits
 
-  nothing_left : h ≡ Nothing → both_of a x b y ≡ []
+  nothing_left : h ≡ None → both_of a x b y ≡ []
   nothing_left e = ap (λ (o : Option (Change Bytes)). emit (key_in a x.key) o []) (sym (rw e at t.is))
 
-  one_left : (act : Act) → h ≡ Is act → both_of a x b y ≡ item_in a b x.key act ∷ []
+  one_left : (act : Act) → h ≡ Some act → both_of a x b y ≡ item_in a b x.key act ∷ []
   one_left act e = ap (λ (o : Option (Change Bytes)). emit (key_in a x.key) o []) (sym (rw e at t.is))
 
   module _ (form : Form) (c : Counts) where
-    pub nothing_counts : h ≡ Nothing → c ≡ plus_all form c (both_of a x b y)
+    pub nothing_counts : h ≡ None → c ≡ plus_all form c (both_of a x b y)
     nothing_counts e = plus_nil form c ∙ ap (plus_all form c) (sym (nothing_left e))
 
-    pub nothing_bytes : (o : Bytes) → h ≡ Nothing → o ≡ sets o c.len (writes form (both_of a x b y))
+    pub nothing_bytes : (o : Bytes) → h ≡ None → o ≡ sets o c.len (writes form (both_of a x b y))
     nothing_bytes o e = writes_nil form o c.len ∙ ap (λ (d : D). sets o c.len (writes form d)) (sym (nothing_left e))
 
-    pub one_counts : (act : Act) (r : Counts) → h ≡ Is act → r ≡ plus_item form c (item_in a b x.key act) → r ≡ plus_all form c (both_of a x b y)
+    pub one_counts : (act : Act) (r : Counts) → h ≡ Some act → r ≡ plus_item form c (item_in a b x.key act) → r ≡ plus_all form c (both_of a x b y)
     one_counts act r e q = q ∙ plus_one form c (item_in a b x.key act) ∙ ap (plus_all form c) (sym (one_left act e))
 
-    pub one_bytes : (act : Act) (o p : Bytes) → h ≡ Is act → p ≡ sets o c.len (field_as form (item_in a b x.key act)) →
+    pub one_bytes : (act : Act) (o p : Bytes) → h ≡ Some act → p ≡ sets o c.len (field_as form (item_in a b x.key act)) →
         p ≡ sets o c.len (writes form (both_of a x b y))
     one_bytes act o p e q = q ∙ ap (sets o c.len) (writes_one form c (item_in a b x.key act)) ∙ ap (λ (d : D). sets o c.len (writes form d)) (sym (one_left act e))
 
@@ -168,12 +165,12 @@ both_small : (form : Form) (a : Bytes) (x : Entry) (b : Bytes) (y : Entry) → K
 unfolding cell_bytes
 both_small form a x b y k f g = let t = table_held a x.act b y.act f g in go t.held t.holds
   where
-    go : (h : Held) → Holds a b (table bytes (change_in a a x.act) (change_in b b y.act)) h → BothSmall form a x b y
-    go Nothing t =
-        let e = nothing_left a b x y Nothing t refl in
+    go : (h : opt.Option Act) → Holds a b (table bytes (change_in a a x.act) (change_in b b y.act)) h → BothSmall form a x b y
+    go None t =
+        let e = nothing_left a b x y None t refl in
         record { len = rw e (omega arith); announced = rw e (omega arith); withdrawn = rw e (omega arith) }
-    go (Is act) t =
-        let e = one_left a b x y (Is act) t act refl in
+    go (Some act) t =
+        let e = one_left a b x y (Some act) t act refl in
         let n = one_small form a b x.key act k t.fits in
         let w = writes_one form zero (item_in a b x.key act) in
         record {
@@ -199,14 +196,14 @@ module _ (form : Form) (reading : Reading) (s : Bytes) (from : ℕ) (o₀ : Byte
   pub rest_ready : Ready reading s at
   rest_ready = h.ready
 
-  module _ (r : Read) (e : Reads reading s at r) where
-    pub rest_counts : r ≡ End → c ≡ plus_all form c₀ (read_as reading (drop from s))
+  module _ (r : opt.Option Entry) (e : Reads reading s at r) where
+    pub rest_counts : r ≡ None → c ≡ plus_all form c₀ (read_as reading (drop from s))
     rest_counts q = none_counts form c o _ c₀ o₀ _ h.left (rw q at e.is)
 
-    pub rest_bytes : r ≡ End → o ≡ sets o₀ c₀.len (writes form (read_as reading (drop from s)))
+    pub rest_bytes : r ≡ None → o ≡ sets o₀ c₀.len (writes form (read_as reading (drop from s)))
     rest_bytes q = none_bytes form c o _ c₀ o₀ _ h.left (rw q at e.is)
 
-    module _ (x : Entry) (q : r ≡ One x) where
+    module _ (x : Entry) (q : r ≡ Some x) where
       fits : EntryFits reading s at x
       fits = rw q at e.fits
 
@@ -287,17 +284,17 @@ emit_append k (some c) d = refl
 
 module _ (form : Form) (ra : Reading) (a : Bytes) (i : ℕ) (rb : Reading) (b : Bytes) (j : ℕ) (c : Counts) (o : Bytes) (t : Turn) (h : TurnIs ra a i rb b j t) where
   -- one side has run out
-  pub step_over : (s : Side) → t ≡ Over s → StepIs form ra a i rb b j c o o (step.Over s)
+  pub step_over : (s : Side) → t ≡ Over s → StepIs form ra a i rb b j c o o (flow.Break s)
   step_over s q = record { is = go s (rw q at h.is) }
     where
-      go : (s : Side) → TurnMeans ra a i rb b j (Over s) → StepMeans form ra a i rb b j c o o (step.Over s)
+      go : (s : Side) → TurnMeans ra a i rb b j (Over s) → StepMeans form ra a i rb b j c o o (flow.Break s)
       go side.Left z = (refl, z)
       go side.Right z = (refl, z)
 
   module _ (m : Ready ra a i) (n : Ready rb b j) where
     -- an item of the left side alone
     module _ (x : Entry) (q : t ≡ Left x) where
-      read_left : Reads ra a i (One x)
+      read_left : Reads ra a i (Some x)
       read_left = (rw q at h.is).0
 
       left_is : left_of ra a i rb b j ≡ item_in a a x.key x.act ∷ left_of ra a x.next rb b j
@@ -306,14 +303,14 @@ module _ (form : Form) (ra : Reading) (a : Bytes) (i : ℕ) (rb : Reading) (b : 
           ∙ walk_left_first (merge_at bytes) (item_in a a x.key x.act) (read_as ra (drop x.next a)) (read_as rb (drop j b)) (rw q at h.is).1
 
       pub step_left : (c' : Counts) (o' : Bytes) → c' ≡ plus_item form c (item_in a a x.key x.act) →
-          o' ≡ sets o c.len (field_as form (item_in a a x.key x.act)) → StepIs form ra a i rb b j c o o' (step.On x.next j c')
+          o' ≡ sets o c.len (field_as form (item_in a a x.key x.act)) → StepIs form ra a i rb b j c o o' (flow.Continue (record { left = x.next; right = j; counts = c' }))
       step_left c' o' ec eo =
           let f = read_left.fits in
           record { is = one_wrote form ra a i rb b j c o c' o' a x.key x.act f.key f.act x.next j left_is ec eo f.ready n (omega (arith, f.ahead)) (omega arith) (omega (arith, f.ahead)) }
 
     -- an item of the right side alone
     module _ (y : Entry) (q : t ≡ Right y) where
-      read_right : Reads rb b j (One y)
+      read_right : Reads rb b j (Some y)
       read_right = (rw q at h.is).0
 
       right_is : left_of ra a i rb b j ≡ item_in b b y.key y.act ∷ left_of ra a i rb b y.next
@@ -322,17 +319,17 @@ module _ (form : Form) (ra : Reading) (a : Bytes) (i : ℕ) (rb : Reading) (b : 
           ∙ walk_right_first (merge_at bytes) (read_as ra (drop i a)) (item_in b b y.key y.act) (read_as rb (drop y.next b)) (rw q at h.is).1
 
       pub step_right : (c' : Counts) (o' : Bytes) → c' ≡ plus_item form c (item_in b b y.key y.act) →
-          o' ≡ sets o c.len (field_as form (item_in b b y.key y.act)) → StepIs form ra a i rb b j c o o' (step.On i y.next c')
+          o' ≡ sets o c.len (field_as form (item_in b b y.key y.act)) → StepIs form ra a i rb b j c o o' (flow.Continue (record { left = i; right = y.next; counts = c' }))
       step_right c' o' ec eo =
           let f = read_right.fits in
           record { is = one_wrote form ra a i rb b j c o c' o' b y.key y.act f.key f.act i y.next right_is ec eo m f.ready (omega arith) (omega (arith, f.ahead)) (omega (arith, f.ahead)) }
 
     -- an item of both sides
     module _ (x y : Entry) (q : t ≡ Both x y) where
-      read_a : Reads ra a i (One x)
+      read_a : Reads ra a i (Some x)
       read_a = (rw q at h.is).0
 
-      read_b : Reads rb b j (One y)
+      read_b : Reads rb b j (Some y)
       read_b = (rw q at h.is).1
 
       both_is : left_of ra a i rb b j ≡ both_of a x b y ++ left_of ra a x.next rb b y.next
@@ -344,7 +341,7 @@ module _ (form : Form) (ra : Reading) (a : Bytes) (i : ℕ) (rb : Reading) (b : 
           ∙ emit_append (key_in a x.key) (table bytes (change_in a a x.act) (change_in b b y.act)) (left_of ra a x.next rb b y.next)
 
       pub step_both : (c' : Counts) (o' : Bytes) → c' ≡ plus_all form c (both_of a x b y) → o' ≡ sets o c.len (writes form (both_of a x b y)) →
-          StepIs form ra a i rb b j c o o' (step.On x.next y.next c')
+          StepIs form ra a i rb b j c o o' (flow.Continue (record { left = x.next; right = y.next; counts = c' }))
       step_both c' o' ec eo =
           let f = read_a.fits in
           let g = read_b.fits in
@@ -407,16 +404,16 @@ module _ (form : Form) (ra : Reading) (a : Bytes) (i : ℕ) (rb : Reading) (b : 
       laid_then : sets o₁ c₁.len (writes form w.written) ≡ sets (sets o c.len (writes form v.written)) (c.len + length (writes form v.written)) (writes form w.written)
       laid_then = ap₂ (λ (x : Bytes) (n : ℕ). sets x n (writes form w.written)) v.laid (ap (λ (x : Counts). x.len) v.counts)
 
-module _ (form : Form) (ra : Reading) (a : Bytes) (i : ℕ) (rb : Reading) (b : Bytes) (j : ℕ) (c : Counts) (o o' : Bytes) (t : Step)
+module _ (form : Form) (ra : Reading) (a : Bytes) (i : ℕ) (rb : Reading) (b : Bytes) (j : ℕ) (c : Counts) (o o' : Bytes) (t : ControlFlow Side Stand)
     (h : StepIs form ra a i rb b j c o o' t) where
-  pub pass_over : (s : Side) → t ≡ step.Over s → StepIs form ra a i rb b j c o o' (step.Over s)
+  pub pass_over : (s : Side) → t ≡ flow.Break s → StepIs form ra a i rb b j c o o' (flow.Break s)
   pass_over s e = rw e at h
 
-  module _ (p q : ℕ) (c' : Counts) (e : t ≡ step.On p q c') where
-    turned : Wrote form ra a i rb b j c o o' p q c' × (i + j < p + q)
+  module _ (n : Stand) (e : t ≡ flow.Continue n) where
+    turned : Wrote form ra a i rb b j c o o' n.left n.right n.counts × (i + j < n.left + n.right)
     turned = rw e at h.is
 
-    pub pass_stands : Countable c → Sized a b → Stands ra a p rb b q c'
+    pub pass_stands : Countable c → Sized a b → Stands ra a n.left rb b n.right n.counts
     pass_stands r s =
         let w = turned.0 in
         let x = w.ready_a.within in
@@ -431,10 +428,10 @@ module _ (form : Form) (ra : Reading) (a : Bytes) (i : ℕ) (rb : Reading) (b : 
           withdrawn = rw w.counts (omega (arith, r.withdrawn, w.withdrawn, s.short_a, s.short_b));
         }
 
-    pub pass_on : (o'' : Bytes) (s : Stand) → Wrote form ra a p rb b q c' o' o'' s.left s.right s.counts → StepIs form ra a i rb b j c o o'' (step.On s.left s.right s.counts)
+    pub pass_on : (o'' : Bytes) (s : Stand) → Wrote form ra a n.left rb b n.right n.counts o' o'' s.left s.right s.counts → StepIs form ra a i rb b j c o o'' (flow.Continue s)
     pass_on o'' s w =
         let u = turned in
-        record { is = (then form ra a i rb b j c o o' p q c' u.0 o'' s.left s.right s.counts w, omega (arith, u.1, w.on_a, w.on_b)) }
+        record { is = (then form ra a i rb b j c o o' n.left n.right n.counts u.0 o'' s.left s.right s.counts w, omega (arith, u.1, w.on_a, w.on_b)) }
 
 pub ruleset passed = (pass_over, pass_stands, pass_on)
 
@@ -489,16 +486,16 @@ module _ (form : Form) (ra : Reading) (a : Bytes) (rb : Reading) (b o₀ : Bytes
       let x = m.ready_a.within in
       record { short = m.short_b; len = omega (arith, m.len, m.short_a); announced = omega (arith, m.announced, m.short_a); withdrawn = omega (arith, m.withdrawn, m.short_a) }
 
-  module _ (o' : Bytes) (t : Step) (h : StepIs form ra a i rb b j c o o' t) where
+  module _ (o' : Bytes) (t : ControlFlow Side Stand) (h : StepIs form ra a i rb b j c o o' t) where
     -- the walk goes on
-    module _ (p q : ℕ) (c' : Counts) (e : t ≡ step.On p q c') where
-      wrote : Wrote form ra a i rb b j c o o' p q c' × (i + j < p + q)
+    module _ (n : Stand) (e : t ≡ flow.Continue n) where
+      wrote : Wrote form ra a i rb b j c o o' n.left n.right n.counts × (i + j < n.left + n.right)
       wrote = rw e at h.is
 
-      pub merge_less : length a - p + (length b - q) < length a - i + (length b - j)
+      pub merge_less : length a - n.left + (length b - n.right) < length a - i + (length b - j)
       merge_less = let w = wrote in omega (arith, w.0.on_a, w.0.on_b, w.1, w.0.ready_a.within, w.0.ready_b.within)
 
-      pub merge_again : Merging form ra a rb b o₀ p q c' o'
+      pub merge_again : Merging form ra a rb b o₀ n.left n.right n.counts o'
       merge_again = let w = wrote.0 in record {
         ready_a = w.ready_a;
         ready_b = w.ready_b;
@@ -508,11 +505,11 @@ module _ (form : Form) (ra : Reading) (a : Bytes) (rb : Reading) (b o₀ : Bytes
         announced = rw w.counts (omega (arith, m.announced, w.announced));
         withdrawn = rw w.counts (omega (arith, m.withdrawn, w.withdrawn));
         long = ap length w.laid ∙ length-sets o c.len (writes form w.written) ∙ m.long;
-        left = left_some form c o _ zero o₀ _ m.left w.written (left_of ra a p rb b q) w.is c' o' w.counts w.laid;
+        left = left_some form c o _ zero o₀ _ m.left w.written (left_of ra a n.left rb b n.right) w.is n.counts o' w.counts w.laid;
       }
 
     -- one side has run out: the rest of the other follows
-    module _ (s : Side) (e : t ≡ step.Over s) where
+    module _ (s : Side) (e : t ≡ flow.Break s) where
       rest_left : s ≡ side.Left → (o' ≡ o) × (left_of ra a i rb b j ≡ read_as ra (drop i a))
       rest_left d =
           let z : (o' ≡ o) × (read_as rb (drop j b) ≡ []) = rw (e, d) at h.is in
@@ -545,14 +542,14 @@ module _ (form : Form) (d : D) (c : Counts) (e : c ≡ plus_all form zero d) (o 
   len_is : c.len ≡ length (writes form d)
   len_is = ap (λ (k : Counts). k.len) e ∙ zero-add (length (writes form d))
 
-  pub whole_long : length o < c.len → NoRoom ≡ output_of form d (length o)
+  pub whole_long : length o < c.len → None ≡ output_of form d (length o)
   whole_long h = rw (lt-leb (length (writes form d)) (length o) (omega (arith, len_is)))
 
   pub whole_long_bytes : length o < c.len → o ≡ whole_out form d o
   whole_long_bytes h = rw (lt-leb (length (writes form d)) (length o) (omega (arith, len_is)))
 
-  pub whole_fits : c.len ≤ length o → Written c ≡ output_of form d (length o)
-  whole_fits h = rw (le-leb (length (writes form d)) (length o) (omega (arith, len_is))) (ap Written e)
+  pub whole_fits : c.len ≤ length o → Some c ≡ output_of form d (length o)
+  whole_fits h = rw (le-leb (length (writes form d)) (length o) (omega (arith, len_is))) (ap Some e)
 
   pub whole_bytes : (p : Bytes) → c.len ≤ length o → p ≡ sets o 0 (writes form d) → p ≡ whole_out form d o
   whole_bytes p h q =

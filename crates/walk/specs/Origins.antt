@@ -1,5 +1,5 @@
 -- The merge of two deltas while both have origins.
-use Rattle.std.specs.Prelude.{ℕ, ◌+◌, ◌^◌, ◌≤◌, ◌<◌, ◌≡◌, [], ◌∷◌, cond, eqb, length, get_or, take, drop}
+use Rattle.std.specs.Prelude.{ℕ, ◌+◌, ◌^◌, ◌≤◌, ◌<◌, ◌≡◌, [], ◌∷◌, cond, eqb, length, get_or, take, drop, None, Option, Some}
 use Rattle.order.specs.Map.{Item}
 use Rattle.change.specs.Change.{Change, announce, withdraw}
 use Rattle.change.specs.Difference as change
@@ -11,9 +11,8 @@ use Rattle.item.specs.declared.sink.Counts.{Counts}
 use Rattle.item.specs.declared.reading.Reading.TheVariants.{Changes}
 use Rattle.item.specs.Reading.{Ready}
 use Rattle.item.specs.Write.{writes}
-use Rattle.walk.specs.declared.origins.OriginStep.{OriginStep}
-use Rattle.walk.specs.declared.origins.OriginStep.TheVariants.{Other, On}
 use Rattle.walk.specs.Walk.{Wrote}
+use Rattle.walk.specs.declared.pass.Stand.{Stand}
 
 -- the change of the origin at `at`: tag 0x11 announces it, 0x12 withdraws it
 abbrev pub origin_of : Bytes → ℕ → Item Bytes (Change Bytes)
@@ -51,9 +50,9 @@ pub record Turns (a : Bytes) (i : ℕ) (b : Bytes) (j : ℕ) (c : Counts) : Type
   pub room : OriginCountable c
 
 module _ (a : Bytes) (i : ℕ) (b : Bytes) (j : ℕ) (c : Counts) (o o' : Bytes) where
-  abbrev pub OriginStepMeans : OriginStep → Type 0
-  OriginStepMeans Other = o' ≡ o
-  OriginStepMeans (On p q c') = Wrote Delta Changes a i Changes b j c o o' p q c' × (i + j < p + q)
+  abbrev pub OriginStepMeans : Option Stand → Type 0
+  OriginStepMeans None = o' ≡ o
+  OriginStepMeans (Some s) = Wrote Delta Changes a i Changes b j c o o' s.left s.right s.counts × (i + j < s.left + s.right)
 
-  pub record OriginStepIs (r : OriginStep) : Type 0 where
+  pub record OriginStepIs (r : Option Stand) : Type 0 where
     pub is : OriginStepMeans r

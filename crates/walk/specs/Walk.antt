@@ -1,5 +1,5 @@
 -- What the walk writes of two items with one key, and how far its counts can be.
-use Rattle.std.specs.Prelude.{ℕ, ◌+◌, ◌*◌, ◌^◌, ◌≤◌, ◌<◌, ◌≡◌, [], ◌++◌, length, drop, cond, leb}
+use Rattle.std.specs.Prelude.{ℕ, ◌+◌, ◌*◌, ◌^◌, ◌≤◌, ◌<◌, ◌≡◌, [], ◌++◌, length, drop, cond, leb, None, Option, Some}
 use Rattle.std.proofs.lemmas.List.Edits.{sets}
 use Rattle.order.specs.Comparison.{bytes}
 use Rattle.order.specs.Walk.{emit}
@@ -15,12 +15,13 @@ use Rattle.item.specs.declared.place.Entry.{Entry}
 use Rattle.payload.specs.Count.{announces, withdraws, sum_of}
 use Rattle.item.specs.declared.sink.Counts.{Counts}
 use Rattle.item.specs.declared.reading.Reading.{Reading}
+use Rattle.item.specs.declared.reading.Run.{Run}
 use Rattle.turn.specs.Left.{left_of}
 use Rattle.turn.specs.declared.turn.Side.TheVariants as side
-use Rattle.walk.specs.declared.walk.Step.{Step}
-use Rattle.walk.specs.declared.walk.Step.TheVariants.{Over, On}
-use Rattle.walk.specs.declared.walk.Output.{Output}
-use Rattle.walk.specs.declared.walk.Output.TheVariants.{NoRoom, Written}
+use Rattle.std.specs.declared.ops.ControlFlow.{ControlFlow}
+use Rattle.std.specs.declared.ops.ControlFlow.TheVariants.{Break, Continue}
+use Rattle.turn.specs.declared.turn.Side.{Side}
+use Rattle.walk.specs.declared.pass.Stand.{Stand}
 use Rattle.item.specs.Reading.{read_as, Ready}
 use Rattle.item.specs.Write.{writes, plus_all, zero}
 use Rattle.item.specs.Place.{change_in, ActFits, KeyIn}
@@ -67,18 +68,24 @@ pub record Stands (ra : Reading) (a : Bytes) (i : ℕ) (rb : Reading) (b : Bytes
   pub withdrawn : c.withdrawn < 2 ^ 63
 
 module _ (form : Form) (ra : Reading) (a : Bytes) (i : ℕ) (rb : Reading) (b : Bytes) (j : ℕ) (c : Counts) (o o' : Bytes) where
-  abbrev pub StepMeans : Step → Type 0
-  StepMeans (Over side.Left) = (o' ≡ o) × (read_as rb (drop j b) ≡ [])
-  StepMeans (Over side.Right) = (o' ≡ o) × (read_as ra (drop i a) ≡ [])
-  StepMeans (On p q c') = Wrote form ra a i rb b j c o o' p q c' × (i + j < p + q)
+  -- one side has run out, or where the walk goes on
+  abbrev pub StepMeans : ControlFlow Side Stand → Type 0
+  StepMeans (Break side.Left) = (o' ≡ o) × (read_as rb (drop j b) ≡ [])
+  StepMeans (Break side.Right) = (o' ≡ o) × (read_as ra (drop i a) ≡ [])
+  StepMeans (Continue s) = Wrote form ra a i rb b j c o o' s.left s.right s.counts × (i + j < s.left + s.right)
 
-  pub record StepIs (r : Step) : Type 0 where
+  pub record StepIs (r : ControlFlow Side Stand) : Type 0 where
     pub is : StepMeans r
 
 -- two runs within the longer of the limits
 pub record Sized (a b : Bytes) : Type 0 where
   pub short_a : length a ≤ limit form.Delta
   pub short_b : length b ≤ limit form.Delta
+
+-- a run of n bytes, and what it says is as long in each form
+pub record Sizes (reading : Reading) (s : Bytes) (n : ℕ) : Type 0 where
+  pub is : n ≡ length s
+  pub written : (form : Form) → length (writes form (read_as reading s)) ≡ n
 
 -- two good runs, within the longer of the limits
 pub record Runs (ra : Reading) (a : Bytes) (rb : Reading) (b : Bytes) : Type 0 where
@@ -91,9 +98,12 @@ pub record Runs (ra : Reading) (a : Bytes) (rb : Reading) (b : Bytes) : Type 0 w
 abbrev pub merged_as : Reading → Bytes → Reading → Bytes → Delta Bytes Bytes
 merged_as ra a rb b = merge bytes bytes (read_as ra a) (read_as rb b)
 
+abbrev pub merged_of : Run → Run → Delta Bytes Bytes
+merged_of a b = merged_as a.reading a.bytes.now b.reading b.bytes.now
+
 -- the whole of it, where there is room for that
-abbrev pub output_of : Form → Delta Bytes Bytes → ℕ → Output
-output_of form D room = cond (leb (length (writes form D)) room) (Written (plus_all form zero D)) NoRoom
+abbrev pub output_of : Form → Delta Bytes Bytes → ℕ → Option Counts
+output_of form D room = cond (leb (length (writes form D)) room) (Some (plus_all form zero D)) None
 
 abbrev pub whole_out : Form → Delta Bytes Bytes → Bytes → Bytes
 whole_out form D out = written_if_room (writes form D) out

@@ -15,7 +15,7 @@ use item::copy::copy;
 use item::place::Part;
 use item::sink::Counts;
 use number::compare::compare;
-use order::Ordering;
+use std::cmp::Ordering;
 
 // Whether a delta has an origin at a place. A no decides nothing.
 pub fn origin_at(s: &[u8], at: usize) -> bool
@@ -83,15 +83,6 @@ pub fn origin_compare(a: &[u8], i: usize, b: &[u8], j: usize) -> Ordering
     compare(&a[i_from..i_to], &b[j_from..j_to])
 }
 
-// Where the walk stands after a turn.
-#[derive(Clone, Copy)]
-pub enum OriginStep {
-    // No origin on one side.
-    Other,
-    // Both places, and what was counted.
-    On(usize, usize, Counts),
-}
-
 // What is left of an origin that both have: nothing, unless both announce or both withdraw it.
 fn put_same(a: &[u8], i: usize, b: &[u8], j: usize, out: &mut [u8], counts: Counts) -> Counts
     requires { Turns a.now i b.now j counts }
@@ -103,54 +94,54 @@ fn put_same(a: &[u8], i: usize, b: &[u8], j: usize, out: &mut [u8], counts: Coun
     put_origin(a, i, out, counts)
 }
 
-// One turn over two origins.
-fn merge_turn(a: &[u8], i: usize, b: &[u8], j: usize, out: &mut [u8], counts: Counts) -> OriginStep
-    requires { Turns a.now i b.now j counts }
-    ensures { OriginStepIs a.now i b.now j counts out.old out.new result }
+// One turn over two origins: where the walk stands then.
+fn merge_turn(a: &[u8], b: &[u8], stand: Stand, out: &mut [u8]) -> Stand
+    requires { Turns a.now stand.left b.now stand.right stand.counts }
+    ensures { OriginStepIs a.now stand.left b.now stand.right stand.counts out.old out.new (Some result) }
 {
+    let Stand {
+        left: i,
+        right: j,
+        counts,
+    } = stand;
     match origin_compare(a, i, b, j) {
-        Ordering::Less => OriginStep::On(i + 26, j, put_origin(a, i, out, counts)),
-        Ordering::Greater => OriginStep::On(i, j + 26, put_origin(b, j, out, counts)),
-        Ordering::Equal => OriginStep::On(i + 26, j + 26, put_same(a, i, b, j, out, counts)),
+        Ordering::Less => Stand {
+            left: i + 26,
+            right: j,
+            counts: put_origin(a, i, out, counts),
+        },
+        Ordering::Greater => Stand {
+            left: i,
+            right: j + 26,
+            counts: put_origin(b, j, out, counts),
+        },
+        Ordering::Equal => Stand {
+            left: i + 26,
+            right: j + 26,
+            counts: put_same(a, i, b, j, out, counts),
+        },
     }
 }
 
 // One turn, if both sides have an origin.
-fn origin_turn(a: &[u8], i: usize, b: &[u8], j: usize, out: &mut [u8], counts: Counts) -> OriginStep
-    requires { Ready Changes a.now i × (Ready Changes b.now j × OriginCountable counts) }
-    ensures { OriginStepIs a.now i b.now j counts out.old out.new result }
+fn origin_turn(a: &[u8], b: &[u8], stand: Stand, out: &mut [u8]) -> Option<Stand>
+    requires { Ready Changes a.now stand.left × (Ready Changes b.now stand.right × OriginCountable stand.counts) }
+    ensures { OriginStepIs a.now stand.left b.now stand.right stand.counts out.old out.new result }
 {
-    if !both_at(a, i, b, j) {
-        return OriginStep::Other;
+    if !both_at(a, stand.left, b, stand.right) {
+        return None;
     }
-    merge_turn(a, i, b, j, out, counts)
+    Some(merge_turn(a, b, stand, out))
 }
 
-// The merge from two places on, as long as both sides have origins.
-pub(crate) fn put_origins(
-    a: &[u8],
-    left: usize,
-    b: &[u8],
-    right: usize,
-    out: &mut [u8],
-    counts: Counts,
-) -> Stand
-    requires { Stands Changes a.now left Changes b.now right counts }
-    ensures { Wrote Delta Changes a.now left Changes b.now right counts out.old out.new result.left result.right result.counts }
+// The merge from where the walk stands, as long as both sides have origins.
+pub(crate) fn put_origins(a: &[u8], b: &[u8], from: Stand, out: &mut [u8]) -> Stand
+    requires { Stands Changes a.now from.left Changes b.now from.right from.counts }
+    ensures { Wrote Delta Changes a.now from.left Changes b.now from.right from.counts out.old out.new result.left result.right result.counts }
 {
-    let mut i = left;
-    let mut j = right;
-    let mut sum = counts;
-    loop {
-        let OriginStep::On(p, q, total) = origin_turn(a, i, b, j, out, sum) else {
-            return Stand {
-                left: i,
-                right: j,
-                counts: sum,
-            };
-        };
-        i = p;
-        j = q;
-        sum = total;
+    let mut stand = from;
+    while let Some(next) = origin_turn(a, b, stand, out) {
+        stand = next;
     }
+    stand
 }

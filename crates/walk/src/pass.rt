@@ -8,7 +8,7 @@ use crate::origins::put_origins;
 use body::tag::Form;
 use item::copy::copy;
 use item::place::Part;
-use item::reading::Reading;
+use item::reading::{Reading, Run};
 use item::sink::Counts;
 use turn::seek::{bound_at, seek};
 use turn::skip::skip;
@@ -21,12 +21,17 @@ pub struct Stand {
     pub counts: Counts,
 }
 
-// The run of a snapshot below the delta's item at j.
-fn put_below(a: &[u8], i: usize, b: &[u8], j: usize, out: &mut [u8], counts: Counts) -> Stand
-    requires { Stands Announced a.now i Changes b.now j counts }
-    ensures { Wrote Snapshot Announced a.now i Changes b.now j counts out.old out.new result.left result.right result.counts }
+// The run of a snapshot below the delta's next item.
+fn put_below(a: &[u8], b: &[u8], stand: Stand, out: &mut [u8]) -> Stand
+    requires { Stands Announced a.now stand.left Changes b.now stand.right stand.counts }
+    ensures { Wrote Snapshot Announced a.now stand.left Changes b.now stand.right stand.counts out.old out.new result.left result.right result.counts }
 {
-    let run = seek(a, i, bound_at(b, j));
+    let Stand {
+        left: i,
+        right,
+        counts,
+    } = stand;
+    let run = seek(a, i, bound_at(b, right));
     let to = run.at;
     copy(a, Part { from: i, to }, out, counts.len);
     let sum = Counts {
@@ -36,44 +41,35 @@ fn put_below(a: &[u8], i: usize, b: &[u8], j: usize, out: &mut [u8], counts: Cou
     };
     Stand {
         left: to,
-        right: j,
+        right,
         counts: sum,
     }
 }
 
-// What needs no turn from i and j on.
-pub(crate) fn put_pass(
-    form: Form,
-    ra: Reading,
-    a: &[u8],
-    i: usize,
-    rb: Reading,
-    b: &[u8],
-    j: usize,
-    out: &mut [u8],
-    counts: Counts,
-) -> Stand
-    requires { Stands ra a.now i rb b.now j counts }
-    ensures { Wrote form ra a.now i rb b.now j counts out.old out.new result.left result.right result.counts }
+// What needs no turn from where the walk stands.
+pub(crate) fn put_pass(form: Form, a: Run, b: Run, stand: Stand, out: &mut [u8]) -> Stand
+    requires { Stands a.reading a.bytes.now stand.left b.reading b.bytes.now stand.right stand.counts }
+    ensures { Wrote form a.entry.reading a.entry.bytes.now stand.left b.entry.reading b.entry.bytes.now stand.right stand.counts out.old out.new result.left result.right result.counts }
 {
-    if let Form::Snapshot = form {
-        if let Reading::Announced = ra {
-            if let Reading::Changes = rb {
-                return put_below(a, i, b, j, out, counts);
+    match (form, a.reading, b.reading) {
+        (Form::Snapshot, Reading::Announced, Reading::Changes) => put_below(
+            a.bytes, b.bytes, stand, out,
+        ),
+        (Form::Delta, Reading::Changes, Reading::Changes) => put_origins(
+            a.bytes, b.bytes, stand, out,
+        ),
+        _ => {
+            let Stand {
+                left,
+                right,
+                counts,
+            } = stand;
+            let k = skip(a, left, b, right);
+            Stand {
+                left: left + k,
+                right: right + k,
+                counts,
             }
         }
-    }
-    if let Form::Delta = form {
-        if let Reading::Changes = ra {
-            if let Reading::Changes = rb {
-                return put_origins(a, i, b, j, out, counts);
-            }
-        }
-    }
-    let k = skip(ra, a, i, rb, b, j);
-    Stand {
-        left: i + k,
-        right: j + k,
-        counts,
     }
 }

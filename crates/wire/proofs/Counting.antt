@@ -4,7 +4,7 @@ use mathlib.Core.Path.{◌≡◌, refl, sym, ap, ◌∙◌}
 use mathlib.Core.List.{[], ◌∷◌}
 use mathlib.Core.Bool.{Bool, true, false, not, cond}
 use native.Mathlib.Omega.{arith}
-use borrow.Author.Tests.{not-true, not-false, eq-eqb, ne_eqb, eqb-true, leb-true}
+use borrow.Author.Tests.{not-true, not-false, eqb-true, leb-true}
 use lib.Dec.{eqb, leb}
 use lib.ListN.{length, get_or, drop}
 use lib.Seq.{sets, length-take-le}
@@ -83,22 +83,6 @@ flags_withdraw : (s : Bytes) (act : Act) → withdraws (change_in s s act) ≡ 1
 flags_withdraw s (Announce p) = refl
 flags_withdraw s (Withdraw p) = refl
 flags_withdraw s (Update p q) = refl
-
--- ---- plus and skip
-
-pub plus_is : (t : Tally) (flags a size : ℕ) → a ≡ flags →
-    record { len = t.len + size; announced = t.announced + a; withdrawn = t.withdrawn + (1 - a); keys = t.keys; aspas = t.aspas } ≡ plus_place t flags size
-plus_is t flags a size e = rw e
-
-pub skip_key : (t : Tally) (kind : ℕ) → kind ≡ 2 →
-    record { len = t.len; announced = t.announced; withdrawn = t.withdrawn; keys = t.keys + 1; aspas = t.aspas } ≡ skip_place t kind
-skip_key t kind e = rw (eq-eqb kind 2 e)
-
-pub skip_aspa : (t : Tally) (kind : ℕ) → (kind ≡ 2 → ⊥) →
-    record { len = t.len; announced = t.announced; withdrawn = t.withdrawn; keys = t.keys; aspas = t.aspas + 1 } ≡ skip_place t kind
-skip_aspa t kind e = rw (ne_eqb kind 2 e)
-
-pub ruleset adding = (plus_is, skip_key, skip_aspa)
 
 -- ---- put_item
 

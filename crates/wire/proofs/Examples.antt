@@ -8,15 +8,16 @@ use Rattle.message.specs.Message.{pdu, pdus}
 use Rattle.message.specs.Say.{spoken, of_kind}
 use Rattle.delta.specs.declared.refusal.Refusal.TheVariants.{NoRoom}
 use Rattle.wire.specs.declared.frame.Frame.{Frame}
-use Rattle.wire.specs.declared.sent.Reply.TheVariants.{Data, Reset}
 use Rattle.wire.specs.Answer.{aside, refused_with, sent_at, out_at, data_plan, reset_plan, report_plan}
+use Rattle.wire.specs.declared.sent.Reply.TheVariants as reply
+use Rattle.std.specs.Prelude.{Ok}
 
 -- a Cache Reset where there are nine bytes, and where there are seven
 reset_written : out_at (reset_plan Rfc8210) (replicate 9 5) ≡ 1 ∷ 8 ∷ 0 ∷ 0 ∷ 0 ∷ 0 ∷ 0 ∷ 8 ∷ 5 ∷ []
 unfolding two_bytes four_bytes pdu reset_plan out_at
 reset_written = refl
 
-reset_told : sent_at (reset_plan Rfc8210) 9 ≡ aside (Reset 8)
+reset_told : sent_at (reset_plan Rfc8210) 9 ≡ aside (Ok (reply.Reset 8))
 unfolding two_bytes four_bytes pdu reset_plan sent_at
 reset_told = refl
 
@@ -39,7 +40,7 @@ abbrev frame : Frame
 frame = record { session = record { 0 = 2 }; serial = record { 0 = 7 }; times = record { refresh = 1; retry = 2; expire = 600 } }
 
 empty_told : sent_at (data_plan Rfc8210 frame []) 32
-    ≡ record { session = record { 0 = 2 }; serial = record { 0 = 7 }; reply = Data (record { len = 32; announced = 0; withdrawn = 0; keys = 0; aspas = 0 }) }
+    ≡ record { session = record { 0 = 2 }; serial = record { 0 = 7 }; reply = Ok (reply.Data (record { len = 32; announced = 0; withdrawn = 0; keys = 0; aspas = 0 })) }
 unfolding two_bytes four_bytes pdu pdus spoken of_kind data_plan sent_at
 empty_told = refl
 

@@ -1,16 +1,13 @@
 -- Laws of a whole answer: its Cache Response, its messages and its End of Data.
-use Prim.Native.Nat.{ℕ, ◌+◌, ◌≤◌, ◌<◌, ◌^◌}
+use Prim.Native.Nat.{ℕ, ◌+◌, ◌≤◌, ◌<◌}
 use mathlib.Core.Path.{◌≡◌, refl, sym, ap, ap₂, ◌∙◌}
 use mathlib.Core.List.{[], ◌∷◌, ◌++◌, append-nil}
 use native.Mathlib.Omega.{arith}
 use native.Mathlib.Nat.{zero-add}
 use borrow.Author.Tests.{le-leb, lt-leb}
 use lib.ListN.{length, length-append}
-use lib.Seq.{sets, length-sets, sets-eq}
-use Rattle.serial.specs.declared.Session.{Session}
+use lib.Seq.{sets, sets-eq}
 use Rattle.serial.specs.declared.timing.Timing.{Timing}
-use Rattle.serial.specs.Serial.{session_of}
-use Rattle.serial.specs.Timing.{timing_of}
 use Rattle.number.specs.Number.{two_bytes, four_bytes}
 use Rattle.payload.specs.Content.{Bytes}
 use Rattle.item.proofs.Sinking.{sets_append}
@@ -19,55 +16,19 @@ use Rattle.message.specs.declared.version.Version.TheVariants.{Rfc6810, Rfc8210}
 use Rattle.message.specs.Version.{end_length}
 use Rattle.message.specs.Message.{cache_response, end_of_data, pdu, pdus}
 use Rattle.message.specs.Say.{said}
-use Rattle.past.specs.declared.state.History.{History}
 use Rattle.wire.specs.declared.tally.Tally.{Tally}
 use Rattle.wire.specs.declared.frame.Frame.{Frame}
-use Rattle.wire.specs.declared.sent.Writing.TheVariants.{NoRoom, Whole}
-use Rattle.wire.specs.Answer.{frame_of, answer_bytes}
+use Rattle.wire.specs.Answer.{answer_bytes}
 use Rattle.wire.specs.Tally.{saying, Countable}
 use Rattle.wire.specs.Put.{OpenIs, LaidIs, CloseIs, TallyIs, AnswerIs, writing_of, answer_out}
 use Rattle.wire.proofs.Saying.{D, tally_path, pdus_append}
+use Rattle.std.specs.Prelude.{None, Some}
 
 -- ---- frame_of, open, close
-
-pub frame_is : (h : History) (times t : Timing) (s : Session) → s ≡ session_of h.session → t ≡ timing_of times →
-    record { session = s; serial = h.newest; times = t } ≡ frame_of h times
-frame_is h times t s e f = λ i. record { session = e i; serial = h.newest; times = f i }
-
-pub open_none : (v : Version) (f : Frame) (o : Bytes) → length o < 8 → OpenIs v f o o
-open_none v f o h = record { same = refl; laid = λ g. absurd (omega arith) }
-
-pub open_put : (v : Version) (f : Frame) (o p : Bytes) → p ≡ sets o 0 (pdu v (cache_response f.session.0)) → OpenIs v f o p
-open_put v f o p e = record { same = ap length e ∙ length-sets o 0 (pdu v (cache_response f.session.0)); laid = λ g. e }
 
 pub end_low : (v : Version) → end_length v ≤ 24
 end_low Rfc6810 = omega arith
 end_low Rfc8210 = omega arith
-
-module _ (v : Version) (f : Frame) (t : Tally) (n : ℕ) (e : n ≡ end_length v) where
-  pub close_sum : Countable t → t.len + n < 2 ^ 64
-  close_sum r = omega (arith, end_low v, r.len)
-
-  all_is : ◌≡◌ {A = Tally} (record { len = t.len + n; announced = t.announced; withdrawn = t.withdrawn; keys = t.keys; aspas = t.aspas })
-      (record { len = t.len + end_length v; announced = t.announced; withdrawn = t.withdrawn; keys = t.keys; aspas = t.aspas })
-  all_is = tally_path (rw e) refl refl refl refl
-
-  pub close_none : (o : Bytes) → length o < t.len + n →
-      CloseIs v f t o o (record { len = t.len + n; announced = t.announced; withdrawn = t.withdrawn; keys = t.keys; aspas = t.aspas })
-  close_none o h = record { tally = all_is; same = refl; laid = λ g. absurd (omega arith) }
-
-  pub close_room : (o : Bytes) → t.len + n ≤ length o → t.len + end_length v ≤ length o
-  close_room o h = omega arith
-
-  pub close_put : (o p : Bytes) → p ≡ sets o t.len (pdu v (end_of_data f.session.0 f.serial.0 f.times)) →
-      CloseIs v f t o p (record { len = t.len + n; announced = t.announced; withdrawn = t.withdrawn; keys = t.keys; aspas = t.aspas })
-  close_put o p d = record {
-    tally = all_is;
-    same = ap length d ∙ length-sets o t.len (pdu v (end_of_data f.session.0 f.serial.0 f.times));
-    laid = λ g. d;
-  }
-
-pub ruleset framing = (frame_is, open_none, open_put, close_sum, close_none, close_room, close_put)
 
 -- ---- the whole
 
@@ -127,8 +88,8 @@ module _ (v : Version) (f : Frame) (d : D) where
         (a.laid h ∙ sets-eq (answer_bytes v f d) o 0 (simp zero-add h) ∙ simp zero-add)
 
     module _ (most : ℕ) (m : length (answer_bytes v f d) ≤ most) (h : most ≤ length o) (o' : Bytes) (r : Tally) (a : AnswerIs v f d o o' r) where
-      pub sure_whole : Whole r ≡ writing_of v f d (length o)
-      sure_whole = rw (le-leb (length (answer_bytes v f d)) (length o) (omega arith)) (ap Whole a.tally.is)
+      pub sure_whole : Some r ≡ writing_of v f d (length o)
+      sure_whole = rw (le-leb (length (answer_bytes v f d)) (length o) (omega arith)) (ap Some a.tally.is)
 
       pub sure_out : o' ≡ answer_out v f d o
       sure_out = written o' r a (omega arith)
@@ -137,15 +98,15 @@ module _ (v : Version) (f : Frame) (d : D) where
       len_is : t.len ≡ length (answer_bytes v f d)
       len_is = ap (λ (u : Tally). u.len) i.is
 
-      pub long_whole : length o < t.len → NoRoom ≡ writing_of v f d (length o)
+      pub long_whole : length o < t.len → None ≡ writing_of v f d (length o)
       long_whole h = rw (lt-leb (length (answer_bytes v f d)) (length o) (omega (arith, len_is)))
 
       pub long_out : length o < t.len → o ≡ answer_out v f d o
       long_out h = rw (lt-leb (length (answer_bytes v f d)) (length o) (omega (arith, len_is)))
 
       module _ (h : t.len ≤ length o) where
-        pub fits_whole : Whole t ≡ writing_of v f d (length o)
-        fits_whole = rw (le-leb (length (answer_bytes v f d)) (length o) (omega (arith, len_is))) (ap Whole i.is)
+        pub fits_whole : Some t ≡ writing_of v f d (length o)
+        fits_whole = rw (le-leb (length (answer_bytes v f d)) (length o) (omega (arith, len_is))) (ap Some i.is)
 
         pub fits_out : (o' : Bytes) (r : Tally) → AnswerIs v f d o o' r → o' ≡ answer_out v f d o
         fits_out o' r a = written o' r a (omega (arith, len_is))

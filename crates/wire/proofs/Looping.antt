@@ -1,7 +1,7 @@
 -- Laws of the two loops: over the merge of many runs, and over the fields of a snapshot.
 use Prim.Native.Nat.{ℕ, ◌+◌, ◌*◌, ◌-◌, ◌≤◌, ◌<◌}
 use mathlib.Core.Path.{◌≡◌, refl, sym, ap, ap₂, ◌∙◌}
-use mathlib.Core.List.{List, [], ◌∷◌, ◌++◌}
+use mathlib.Core.List.{[], ◌∷◌, ◌++◌}
 use native.Mathlib.Omega.{arith}
 use lib.ListN.{length, drop, length-append}
 use lib.Seq.{sets}
@@ -16,17 +16,16 @@ use Rattle.payload.proofs.Closed.{diff_map, merge_all_map}
 use Rattle.item.specs.declared.place.Act.{Act}
 use Rattle.item.specs.declared.place.Entry.{Entry}
 use Rattle.item.specs.declared.reading.Reading.TheVariants.{Announced}
-use Rattle.item.specs.declared.reading.Read.{Read}
-use Rattle.item.specs.declared.reading.Read.TheVariants as read
 use Rattle.item.specs.Place.{item_in}
 use Rattle.item.specs.Reading.{read_as, Ready, Reads}
 use Rattle.item.proofs.Sinking.{sets_append}
 use Rattle.message.specs.declared.version.Version.{Version}
 use Rattle.delta.proofs.Answering.{ready_start}
-use Rattle.cursors.specs.declared.next.Step.{Step}
-use Rattle.cursors.specs.declared.next.Step.TheVariants.{End, Item}
-use Rattle.cursors.specs.Cursor.{left_of, runs, items_left, Within, Walks, ItemFits, NextIs}
-use Rattle.cursors.specs.Front.{Fronted, line}
+use Rattle.cursors.specs.declared.runs.Walk.{Walk}
+use Rattle.cursors.specs.Cursor.{runs, items_left, ItemFits}
+pub use Rattle.cursors.specs.Walk.{items_of}
+use Rattle.cursors.specs.Walk.{Underway, Kept, Gives, remains}
+use Rattle.cursors.proofs.Keeping.{kept_remains, kept_items}
 use Rattle.wire.specs.declared.tally.Tally.{Tally}
 use Rattle.wire.specs.Answer.{all_new}
 use Rattle.wire.specs.declared.origins.RunEnd.{RunEnd}
@@ -34,6 +33,7 @@ use Rattle.wire.specs.Tally.{saying, plus_all, start, Countable, Says, Steps, It
 use Rattle.wire.specs.Left.{Left, Listed, Passed}
 use Rattle.wire.specs.Put.{Merges, Holds, LaidIs}
 use Rattle.wire.proofs.Saying.{X, D, saying_cons, saying_none, plus_cons, plus_none}
+use Rattle.std.specs.Prelude.{None, Option, Some}
 
 module _ (v : Version) (t : Tally) (o : Bytes) (d : D) (t₀ : Tally) (o₀ : Bytes) (d₀ : D) (l : Left v t o d t₀ o₀ d₀) where
   left_len : t.len + length (saying v d) ≡ t₀.len + length (saying v d₀)
@@ -75,46 +75,35 @@ module _ (v : Version) (t : Tally) (o : Bytes) (d : D) (o₀ : Bytes) (d₀ : D)
 
 -- ---- the merge of many runs: each item that is left counts for at most 1,056 bytes
 
-pub record Putting (v : Version) (s : Bytes) (at₀ ends f₀ : List ℕ) (from n : ℕ) (o₀ : Bytes) (at f : List ℕ) (o : Bytes) (t : Tally) : Type 0 where
-  pub fronted : Fronted s at ends from n f
-  pub long_f : length f ≡ length f₀
-  pub walks : Walks s at ends from n
-  pub same_long : length at ≡ length at₀
+pub record Putting (v : Version) (w₀ : Walk) (o₀ : Bytes) (w : Walk) (o : Bytes) (t : Tally) : Type 0 where
+  pub underway : Underway w
   pub long : length o ≡ length o₀
-  pub len : t.len + 1_056 * items_left s at ends from n ≤ 8 + 1_056 * limit Delta
-  pub announced : t.announced + items_left s at ends from n ≤ limit Delta
-  pub withdrawn : t.withdrawn + items_left s at ends from n ≤ limit Delta
-  pub keys : t.keys + items_left s at ends from n ≤ limit Delta
-  pub aspas : t.aspas + items_left s at ends from n ≤ limit Delta
-  pub valid : All (Valid Delta) (left_of s at ends from n)
-  pub left : Left v t o (left_of s at ends from n) start o₀ (left_of s at₀ ends from n)
+  pub len : t.len + 1_056 * items_of w ≤ 8 + 1_056 * limit Delta
+  pub announced : t.announced + items_of w ≤ limit Delta
+  pub withdrawn : t.withdrawn + items_of w ≤ limit Delta
+  pub keys : t.keys + items_of w ≤ limit Delta
+  pub aspas : t.aspas + items_of w ≤ limit Delta
+  pub valid : All (Valid Delta) (remains w)
+  pub left : Left v t o (remains w) start o₀ (remains w₀)
 
-pub put_within : (s : Bytes) (at ends : List ℕ) (from n : ℕ) → Merges s at ends from n → Within s at ends n
-put_within s at ends from n m = m.bounded.walks.within
+pub put_start : (v : Version) (w : Walk) (o : Bytes) (t : Tally) → Merges w → t ≡ start → Putting v w o w o t
+put_start v w o t m e =
+    let b = m.starts.bounded in
+    rw e (record {
+      underway = record { walks = b.walks; fronted = m.starts.fronted };
+      long = refl;
+      len = omega (arith, b.few);
+      announced = omega (arith, b.few);
+      withdrawn = omega (arith, b.few);
+      keys = omega (arith, b.few);
+      aspas = omega (arith, b.few);
+      valid = (merge_all_map (runs w.store.now w.at w.ends w.from w.n) m.maps).valid;
+      left = record { tally = refl; same = refl; laid = λ g. refl };
+    })
 
-pub put_start : (v : Version) (s : Bytes) (at ends f : List ℕ) (from n : ℕ) (o : Bytes) (t : Tally) → Merges s at ends from n → Fronted s at ends from n f → t ≡ start →
-    Putting v s at ends f from n o at f o t
-put_start v s at ends f from n o t m u e = rw e (record {
-  fronted = u;
-  long_f = refl;
-  walks = m.bounded.walks;
-  same_long = refl;
-  long = refl;
-  len = omega (arith, m.bounded.few);
-  announced = omega (arith, m.bounded.few);
-  withdrawn = omega (arith, m.bounded.few);
-  keys = omega (arith, m.bounded.few);
-  aspas = omega (arith, m.bounded.few);
-  valid = (merge_all_map (runs s at ends from n) m.maps).valid;
-  left = record { tally = refl; same = refl; laid = λ g. refl };
-})
-
-module _ (v : Version) (s : Bytes) (at₀ ends f₀ : List ℕ) (from n : ℕ) (o₀ : Bytes) (at f : List ℕ) (o : Bytes) (t : Tally) (i : Putting v s at₀ ends f₀ from n o₀ at f o t) where
-  pub put_fronted : Fronted s at ends from n f
-  put_fronted = i.fronted
-
-  pub put_walks : Walks s at ends from n
-  put_walks = i.walks
+module _ (v : Version) (w₀ : Walk) (o₀ : Bytes) (w : Walk) (o : Bytes) (t : Tally) (i : Putting v w₀ o₀ w o t) where
+  pub put_underway : Underway w
+  put_underway = i.underway
 
   pub put_room : Countable t
   put_room = record {
@@ -125,49 +114,40 @@ module _ (v : Version) (s : Bytes) (at₀ ends f₀ : List ℕ) (from n : ℕ) (
     aspas = omega (arith, i.aspas);
   }
 
-  module _ (at' : List ℕ) (r : Step) (x : NextIs s at at' ends from n r) where
-    pub put_end : r ≡ End → LaidIs v (left_of s at₀ ends from n) o₀ o t
+  module _ (w' : Walk) (r : Option (Key × Act)) (x : Gives w w' r) where
+    pub put_end : r ≡ None → LaidIs v (remains w₀) o₀ o t
     put_end q = left_none v t o _ o₀ _ i.left (rw q at x.is) put_room
 
-    module _ (key : Key) (act : Act) (q : r ≡ Item key act) where
-      item : ItemFits s key act × (items_left s at' ends from n < items_left s at ends from n)
-      item = rw q at x.fits
+    module _ (u : Underway w') (k : Kept w w') (key : Key) (act : Act) (q : r ≡ Some (key, act)) where
+      fits : ItemFits w.store.now key act × (items_left w.store.now w'.at w.ends w.from w.n < items_of w)
+      fits = rw q at x.fits
 
-      first : left_of s at ends from n ≡ item_in s s key act ∷ left_of s at' ends from n
-      first = rw q at x.is
+      first : remains w ≡ item_in w'.store.now w'.store.now key act ∷ remains w'
+      first = (rw q at x.is) ∙ ap₂ (λ (s : Bytes) (d : D). item_in s s key act ∷ d) (sym k.store) (kept_remains w w' k)
 
-      rest_valid : All (Valid Delta) (item_in s s key act ∷ left_of s at' ends from n)
+      rest_valid : All (Valid Delta) (item_in w'.store.now w'.store.now key act ∷ remains w')
       rest_valid = rw first at i.valid
 
-      pub put_says : Says s key act
-      put_says = record { key_in_lem = item.0.key; valid = rest_valid.0 }
+      pub put_says : Says w'.store.now key act
+      put_says = record { key_in_lem = rw k.store fits.0.key; valid = rest_valid.0 }
 
-      pub put_less : items_left s at' ends from n < items_left s at ends from n
-      put_less = item.1
+      pub put_less : items_of w' < items_of w
+      put_less = omega (arith, fits.1, kept_items w w' k)
 
-      pub put_again : (f' : List ℕ) → Fronted s at' ends from n f' → (o' : Bytes) (t' : Tally) → ItemIs v (item_in s s key act) t o o' t' →
-          Putting v s at₀ ends f₀ from n o₀ at' f' o' t'
-      put_again f' u o' t' z =
-          record {
-            fronted = u;
-            long_f = (line u).blocks.long ∙ sym (line i.fronted).blocks.long ∙ i.long_f;
-            walks = x.walks;
-            same_long = x.walks.within.long ∙ sym i.walks.within.long ∙ i.same_long;
-            long = z.same ∙ i.long;
-            len = omega (arith, i.len, put_less, z.steps.len);
-            announced = omega (arith, i.announced, put_less, z.steps.announced);
-            withdrawn = omega (arith, i.withdrawn, put_less, z.steps.withdrawn);
-            keys = omega (arith, i.keys, put_less, z.steps.keys);
-            aspas = omega (arith, i.aspas, put_less, z.steps.aspas);
-            valid = rest_valid.1;
-            left = left_one v t o _ start o₀ _ i.left (item_in s s key act) (left_of s at' ends from n) o' t' first z;
-          }
+      pub put_again : (o' : Bytes) (t' : Tally) → ItemIs v (item_in w'.store.now w'.store.now key act) t o o' t' → Putting v w₀ o₀ w' o' t'
+      put_again o' t' z = record {
+        underway = u;
+        long = z.same ∙ i.long;
+        len = omega (arith, i.len, put_less, z.steps.len);
+        announced = omega (arith, i.announced, put_less, z.steps.announced);
+        withdrawn = omega (arith, i.withdrawn, put_less, z.steps.withdrawn);
+        keys = omega (arith, i.keys, put_less, z.steps.keys);
+        aspas = omega (arith, i.aspas, put_less, z.steps.aspas);
+        valid = rest_valid.1;
+        left = left_one v t o _ start o₀ _ i.left (item_in w'.store.now w'.store.now key act) (remains w') o' t' first z;
+      }
 
--- the measure of the loop
-abbrev pub measure : Bytes → List ℕ → List ℕ → ℕ → ℕ → ℕ
-measure = items_left
-
-pub ruleset putting = (put_within, put_start, put_fronted, put_walks, put_room, put_end, put_says, put_less, put_again)
+pub ruleset putting = (put_start, put_underway, put_room, put_end, put_says, put_less, put_again)
 
 -- ---- the fields of a snapshot
 
@@ -237,11 +217,11 @@ module _ (v : Version) (s o₀ : Bytes) (at : ℕ) (o : Bytes) (t : Tally) (i : 
     pub list_long : length o₁ ≡ length o₀
     list_long = p.left.same ∙ i.long
 
-    module _ (r : Read) (x : Reads Announced s run.at r) where
-      pub list_end : r ≡ read.End → LaidIs v (all_new s) o₀ o₁ run.tally
+    module _ (r : Option Entry) (x : Reads Announced s run.at r) where
+      pub list_end : r ≡ None → LaidIs v (all_new s) o₀ o₁ run.tally
       list_end q = left_none v run.tally o₁ _ o₀ _ left (rw q at x.is) list_room
 
-      module _ (e : Entry) (q : r ≡ read.One e) where
+      module _ (e : Entry) (q : r ≡ Some e) where
         first_field : read_as Announced (drop run.at s) ≡ item_in s s e.key e.act ∷ read_as Announced (drop e.next s)
         first_field = rw q at x.is
 

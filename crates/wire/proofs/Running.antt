@@ -36,7 +36,7 @@ use Rattle.wire.specs.Tally.{Says, ItemIs}
 use Rattle.wire.specs.Left.{Left, Listed, counted, origin_key, origin_act, origin_pdu, OriginAt, Passed}
 use Rattle.wire.proofs.Saying.{tally_path}
 use Rattle.wire.proofs.Counting.{origins_spoken, item_said}
-use Rattle.wire.proofs.Looping.{left_one, left_then, listed_more, listed_room}
+use Rattle.wire.proofs.Looping.{left_one, listed_more, listed_room}
 
 -- ---- origin_at
 
@@ -128,7 +128,7 @@ module _ (v : Version) (s : Bytes) (at : ℕ) (o : Bytes) (i : ℕ) where
 
 pub ruleset one = (one_lies, one_place, four_none, four_put, six_none, six_put)
 
--- ---- put_fours, put_sixes
+-- ---- put_run
 
 pub record Running (v : Version) (s : Bytes) (from : ℕ) (t : Tally) (o₀ : Bytes) (at : ℕ) (o : Bytes) (len announced : ℕ) : Type 0 where
   pub long : length o ≡ length o₀
@@ -185,18 +185,3 @@ module _ (v : Version) (s : Bytes) (from : ℕ) (t : Tally) (o₀ : Bytes) (at :
       }
 
 pub ruleset running = (run_start, run_ready, run_len, run_done, here_is, run_inside, run_announced, run_less, run_sum, run_again)
-
--- ---- put_origins
-
-module _ (v : Version) (s : Bytes) (from : ℕ) (t : Tally) (o o₁ : Bytes) (q : RunEnd) (p : Passed v s from t o o₁ q) where
-  pub pass_listed : Listed s q.at q.tally
-  pass_listed = p.listed
-
-  pub pass_on : (o₂ : Bytes) (r : RunEnd) → Passed v s q.at q.tally o₁ o₂ r → Passed v s from t o o₂ r
-  pass_on o₂ r z = record {
-    on = omega (arith, p.on, z.on);
-    listed = z.listed;
-    left = left_then v q.tally o₁ _ t o _ p.left r.tally o₂ _ z.left;
-  }
-
-pub ruleset passes = (pass_listed, pass_on)

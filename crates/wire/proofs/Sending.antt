@@ -37,25 +37,26 @@ use Rattle.past.specs.WellFormed.{is_good, every, in_range, good_serial, good_st
 use Rattle.past.specs.Query.{is_served, is_session}
 use Rattle.past.proofs.Served.{served_rule, rule_within}
 use Rattle.past.proofs.Lists.{all_map}
+use Rattle.order.specs.Map.{All}
 use Rattle.change.proofs.Chain.{all_drop}
 use Rattle.change.specs.History.{last_n}
-use Rattle.cursors.specs.Cursor.{left_of, runs}
+use Rattle.cursors.specs.declared.runs.Walk.{Walk}
+use Rattle.cursors.specs.Cursor.{runs, Within}
+use Rattle.cursors.specs.Walk.{LinedUp, remains}
 use Rattle.merged.specs.declared.place.Places.{Places}
 use Rattle.merged.specs.Place.{IsFine, Placed, Stored, last_merged}
 use Rattle.merged.specs.Place.{between}
 use Rattle.history.proofs.Asking.{fine_true, formed_stored, formed_serial}
-use Rattle.merged.proofs.Placing.{stored_summed, last_ordered, last_few, last_most, last_bounded, last_is, left_is}
+use Rattle.merged.proofs.Placing.{stored_summed, last_ordered, last_few, last_within, last_starts, last_most, last_is, remains_is}
 use Rattle.wire.specs.declared.tally.Tally.{Tally}
 use Rattle.wire.specs.declared.frame.Frame.{Frame}
-use Rattle.wire.specs.declared.sent.Reply.TheVariants.{Data, Reset, Report}
 use Rattle.wire.specs.declared.sent.Sent.{Sent}
-use Rattle.wire.specs.declared.sent.Writing.{Writing}
-use Rattle.wire.specs.declared.sent.Writing.TheVariants as writing
 use Rattle.wire.specs.Answer.{Plan, frame_of, answer_bytes, tally_of, aside, refused_with, report_bytes, notice_bytes, sent_at, out_at, data_plan, reset_plan, report_plan, query_plan, all_new, full_plan, notify_plan}
 use Rattle.wire.specs.Put.{writing_of, answer_out, sent_of, Merges, Holds, Held}
 use Rattle.wire.proofs.Saying.{D, tally_path}
-use Rattle.wire.proofs.Framing.{end_low}
 use Rattle.wire.proofs.Sizing.{answer_short, new_short}
+use Rattle.std.specs.Prelude.{None, Option, Some, Ok}
+use Rattle.wire.specs.declared.sent.Reply.TheVariants as reply
 
 -- ---- bytes that fit, or not
 
@@ -87,19 +88,19 @@ module _ (v : Version) (o : Bytes) where
 
   pub reset_none : (r : Sent) → length o < 8 → r ≡ refused_with NoRoom → r ≡ sent_at (reset_plan v) (length o)
   unfolding sent_at reset_plan
-  reset_none r h e = long_sent (pdu v cache_reset) (aside (Reset (length (pdu v cache_reset)))) o r (omega (arith, reset_long)) e
+  reset_none r h e = long_sent (pdu v cache_reset) (aside (Ok (reply.Reset (length (pdu v cache_reset))))) o r (omega (arith, reset_long)) e
 
   pub reset_kept : length o < 8 → o ≡ out_at (reset_plan v) o
   unfolding out_at reset_plan
-  reset_kept h = long_out (pdu v cache_reset) (aside (Reset (length (pdu v cache_reset)))) o (omega (arith, reset_long))
+  reset_kept h = long_out (pdu v cache_reset) (aside (Ok (reply.Reset (length (pdu v cache_reset))))) o (omega (arith, reset_long))
 
-  pub reset_sent : (r : Sent) → 8 ≤ length o → r ≡ aside (Reset 8) → r ≡ sent_at (reset_plan v) (length o)
+  pub reset_sent : (r : Sent) → 8 ≤ length o → r ≡ aside (Ok (reply.Reset 8)) → r ≡ sent_at (reset_plan v) (length o)
   unfolding sent_at reset_plan
-  reset_sent r h e = e ∙ ap (λ (n : ℕ). aside (Reset n)) (sym reset_long) ∙ fits_sent (pdu v cache_reset) (aside (Reset (length (pdu v cache_reset)))) o (omega (arith, reset_long))
+  reset_sent r h e = e ∙ ap (λ (n : ℕ). aside (Ok (reply.Reset n))) (sym reset_long) ∙ fits_sent (pdu v cache_reset) (aside (Ok (reply.Reset (length (pdu v cache_reset))))) o (omega (arith, reset_long))
 
   pub reset_out : (p : Bytes) → 8 ≤ length o → p ≡ sets o 0 (pdu v cache_reset) → p ≡ out_at (reset_plan v) o
   unfolding out_at reset_plan
-  reset_out p h e = fits_out (pdu v cache_reset) (aside (Reset (length (pdu v cache_reset)))) o p (omega (arith, reset_long)) e
+  reset_out p h e = fits_out (pdu v cache_reset) (aside (Ok (reply.Reset (length (pdu v cache_reset))))) o p (omega (arith, reset_long)) e
 
 pub ruleset resetting = (reset_none, reset_kept, reset_sent, reset_out)
 
@@ -111,7 +112,7 @@ module _ (v : Version) (session : Session) (asked : Serial) (o : Bytes) where
   report_long = refl
 
   abbrev report_sent : Sent
-  report_sent = aside (Report (length (report_bytes v session asked)))
+  report_sent = aside (Ok (reply.Report (length (report_bytes v session asked))))
 
   pub report_none : (r : Sent) → length o < 28 → r ≡ refused_with NoRoom → r ≡ sent_at (report_plan v session asked) (length o)
   unfolding sent_at report_plan
@@ -121,9 +122,9 @@ module _ (v : Version) (session : Session) (asked : Serial) (o : Bytes) where
   unfolding out_at report_plan
   report_kept h = long_out (report_bytes v session asked) report_sent o (omega (arith, report_long))
 
-  pub report_sent_lem : (r : Sent) → 28 ≤ length o → r ≡ aside (Report 28) → r ≡ sent_at (report_plan v session asked) (length o)
+  pub report_sent_lem : (r : Sent) → 28 ≤ length o → r ≡ aside (Ok (reply.Report 28)) → r ≡ sent_at (report_plan v session asked) (length o)
   unfolding sent_at report_plan
-  report_sent_lem r h e = e ∙ ap (λ (n : ℕ). aside (Report n)) (sym report_long) ∙ fits_sent (report_bytes v session asked) report_sent o (omega (arith, report_long))
+  report_sent_lem r h e = e ∙ ap (λ (n : ℕ). aside (Ok (reply.Report n))) (sym report_long) ∙ fits_sent (report_bytes v session asked) report_sent o (omega (arith, report_long))
 
   pub report_out : (p : Bytes) → 28 ≤ length o → p ≡ sets o 0 (report_bytes v session asked) → p ≡ out_at (report_plan v session asked) o
   unfolding out_at report_plan
@@ -139,7 +140,7 @@ module _ (v : Version) (h : History) (o : Bytes) where
   notice_long = refl
 
   abbrev notice_sent : Sent
-  notice_sent = record { session = session_of h.session; serial = h.newest; reply = Data (tally_of v (notice_bytes v h) []) }
+  notice_sent = record { session = session_of h.session; serial = h.newest; reply = Ok (reply.Data (tally_of v (notice_bytes v h) [])) }
 
   notice_tally : ◌≡◌ {A = Tally} (record { len = 12; announced = 0; withdrawn = 0; keys = 0; aspas = 0 }) (tally_of v (notice_bytes v h) [])
   unfolding spoken of_kind
@@ -158,10 +159,10 @@ module _ (v : Version) (h : History) (o : Bytes) where
   notice_kept l = long_out (notice_bytes v h) notice_sent o (omega (arith, notice_long))
 
   module _ (s : Session) (e : s ≡ session_of h.session) (l : 12 ≤ length o) where
-    pub notice_sent_lem : record { session = s; serial = h.newest; reply = Data (record { len = 12; announced = 0; withdrawn = 0; keys = 0; aspas = 0 }) } ≡ sent_at (notify_plan v h) (length o)
+    pub notice_sent_lem : record { session = s; serial = h.newest; reply = Ok (reply.Data (record { len = 12; announced = 0; withdrawn = 0; keys = 0; aspas = 0 })) } ≡ sent_at (notify_plan v h) (length o)
     unfolding sent_at notify_plan
     notice_sent_lem =
-        (λ i. record { session = e i; serial = h.newest; reply = Data (notice_tally i) })
+        (λ i. record { session = e i; serial = h.newest; reply = Ok (reply.Data (notice_tally i)) })
         ∙ fits_sent (notice_bytes v h) notice_sent o (omega (arith, notice_long))
 
     pub notice_out : (p : Bytes) → p ≡ sets o 0 (pdu v (serial_notify s.0 h.newest.0)) → p ≡ out_at (notify_plan v h) o
@@ -174,24 +175,13 @@ pub ruleset noticing = (notice_none, notice_kept, notice_sent_lem, notice_out)
 
 -- ---- data
 
-pub sent_whole : (f : Frame) (w : Writing) (t : Tally) → w ≡ writing.Whole t → record { session = f.session; serial = f.serial; reply = Data t } ≡ sent_of f w
-sent_whole f w t e = rw e
-
-pub sent_none : (f : Frame) (w : Writing) (r : Sent) → w ≡ writing.NoRoom → r ≡ refused_with NoRoom → r ≡ sent_of f w
-sent_none f w r e d = rw e d
-
-pub most_sum : (m n : ℕ) (v : Version) → m ≤ 2_200_000_000 → n ≡ end_length v → 8 + (m + m / 4) + n < 2 ^ 64
-most_sum m n v h e = omega (arith, end_low v)
-
-pub ruleset telling = (sent_whole, sent_none, most_sum)
-
 module _ (v : Version) (f : Frame) (d : D) (o : Bytes) where
-  pub data_sent : (w : Writing) → w ≡ writing_of v f d (length o) → sent_of f w ≡ sent_at (data_plan v f d) (length o)
+  pub data_sent : (w : Option Tally) → w ≡ writing_of v f d (length o) → sent_of f w ≡ sent_at (data_plan v f d) (length o)
   unfolding sent_at data_plan
   data_sent w e = rw e (go (leb (length (answer_bytes v f d)) (length o)))
     where
-      go : (t : Bool) → sent_of f (cond t (writing.Whole (tally_of v (answer_bytes v f d) d)) writing.NoRoom)
-          ≡ cond t (record { session = f.session; serial = f.serial; reply = Data (tally_of v (answer_bytes v f d) d) }) (refused_with NoRoom)
+      go : (t : Bool) → sent_of f (cond t (Some (tally_of v (answer_bytes v f d) d)) None)
+          ≡ cond t (record { session = f.session; serial = f.serial; reply = Ok (reply.Data (tally_of v (answer_bytes v f d) d)) }) (refused_with NoRoom)
       go true = refl
       go false = refl
 
@@ -208,18 +198,14 @@ total_part (suc a) n [] = let e : ◌≡◌ {A = List ℕ} (take n []) [] = take
 total_part (suc a) n (x ∷ l) = let e : suc a + n ≡ suc (a + n) = omega arith in rw e (omega (arith, total_part a n l))
 
 module _ (s : Bytes) (lengths : List ℕ) (n : ℕ) (r : Places) (p : Placed lengths n r) (d : ℕ) (h : d ≤ n) (t : Stored s lengths n) where
-  pub serve_merges : Merges s r.at r.ends (n - d) n
-  serve_merges = record {
-    bounded = last_bounded s lengths n r p d h t;
-    maps = rw (last_is s lengths n r p d h)
-        (all_map changes IsFine (IsMap Delta) (λ x f. (faithful Delta).map_of x f) (last_n d (cuts (take n lengths) s))
-        (all_drop IsFine (length (cuts (take n lengths) s) - d) (cuts (take n lengths) s) t.good));
-  }
+  pub serve_within : Within s r.at r.ends n
+  serve_within = last_within s lengths n r p d h t
 
-  pub serve_most : ((i : ℕ) → Fits w8 (get_or s i 0)) → (v : Version) (f : Frame) (k m : ℕ) → k ≡ total (between lengths (n - d) n) → m ≡ 8 + (k + k / 4) + end_length v →
-      length (answer_bytes v f (left_of s r.at r.ends (n - d) n)) ≤ m
-  serve_most o v f k m e q =
-      rw q (answer_short v f (left_of s r.at r.ends (n - d) n) k (merge_all_map (runs s r.at r.ends (n - d) n) serve_merges.maps).valid (last_most s lengths n r p d h t o k e))
+  maps : All (IsMap Delta) (runs s r.at r.ends (n - d) n)
+  maps =
+      rw (last_is s lengths n r p d h)
+      (all_map changes IsFine (IsMap Delta) (λ x f. (faithful Delta).map_of x f) (last_n d (cuts (take n lengths) s))
+      (all_drop IsFine (length (cuts (take n lengths) s) - d) (cuts (take n lengths) s) t.good))
 
   pub serve_small : (k : ℕ) → k ≡ total (between lengths (n - d) n) → k ≤ 2_200_000_000
   serve_small k e =
@@ -227,19 +213,31 @@ module _ (s : Bytes) (lengths : List ℕ) (n : ℕ) (r : Places) (p : Placed len
       let w : total (take (n - (n - d)) (drop (n - d) lengths)) ≤ total (take n lengths) = rw z at (total_part (n - d) (n - (n - d)) lengths) in
       omega (arith, t.fits, t.small)
 
-  pub serve_output : (v : Version) (f : Frame) (w : Writing) (m : ℕ) → w ≡ writing_of v f (left_of s r.at r.ends (n - d) n) m → w ≡ writing_of v f (last_merged s lengths n d) m
-  serve_output v f w m e = e ∙ ap (λ (x : D). writing_of v f x m) (left_is s lengths n r p d h)
+  module _ (w : Walk) (l : LinedUp s r.at r.ends (n - d) n w) where
+    pub serve_merges : Merges w
+    serve_merges = record { starts = last_starts s lengths n r p d h t w l; maps = rw (l.store, l.at, l.ends, l.from, l.n) maps }
 
-  pub serve_bytes : (v : Version) (f : Frame) (o o' : Bytes) → o' ≡ answer_out v f (left_of s r.at r.ends (n - d) n) o → o' ≡ answer_out v f (last_merged s lengths n d) o
-  serve_bytes v f o o' e = e ∙ ap (λ (x : D). answer_out v f x o) (left_is s lengths n r p d h)
+    pub serve_most : ((i : ℕ) → Fits w8 (get_or s i 0)) → (v : Version) (f : Frame) (k m : ℕ) → k ≡ total (between lengths (n - d) n) → m ≡ 8 + (k + k / 4) + end_length v →
+        length (answer_bytes v f (remains w)) ≤ m
+    serve_most o v f k m e q =
+        rw q (answer_short v f (remains w) k (merge_all_map (runs w.store.now w.at w.ends w.from w.n) serve_merges.maps).valid (last_most s lengths n r p d h t w l o k e))
 
-pub ruleset lasting = (stored_summed, last_ordered, last_few, serve_merges, serve_most, serve_small, serve_output, serve_bytes)
+    is : remains w ≡ last_merged s lengths n d
+    is = remains_is s lengths n r p d h t w l
+
+    pub serve_output : (v : Version) (f : Frame) (c : Option Tally) (m : ℕ) → c ≡ writing_of v f (remains w) m → c ≡ writing_of v f (last_merged s lengths n d) m
+    serve_output v f c m e = e ∙ ap (λ (x : D). writing_of v f x m) is
+
+    pub serve_bytes : (v : Version) (f : Frame) (o o' : Bytes) → o' ≡ answer_out v f (remains w) o → o' ≡ answer_out v f (last_merged s lengths n d) o
+    serve_bytes v f o o' e = e ∙ ap (λ (x : D). answer_out v f x o) is
+
+pub ruleset lasting = (stored_summed, last_ordered, last_few, serve_within, serve_merges, serve_most, serve_small, serve_output, serve_bytes)
 
 module _ (v : Version) (h : History) (times : Timing) (f : Frame) (ef : f ≡ frame_of h times) (deltas : Bytes) (d n k : ℕ) (en : n ≡ h.n) (ek : k ≡ d) (o : Bytes) where
   pub served_stored : Stored deltas h.deltas h.n → Stored deltas h.deltas n
   served_stored s = rw en s
 
-  pub served_sent : (w : Writing) (r : Sent) → w ≡ writing_of v f (last_merged deltas h.deltas n k) (length o) → r ≡ sent_of f w →
+  pub served_sent : (w : Option Tally) (r : Sent) → w ≡ writing_of v f (last_merged deltas h.deltas n k) (length o) → r ≡ sent_of f w →
       r ≡ sent_at (data_plan v (frame_of h times) (last_merged deltas h.deltas h.n d)) (length o)
   served_sent w r e q = rw (ef, en, ek) at (q ∙ data_sent v f (last_merged deltas h.deltas n k) o w e)
 
@@ -348,7 +346,7 @@ module _ (v : Version) (h : History) (times : Timing) (s o : Bytes) (y : Held h 
       (let z = new_short (held_snapshot h s) (take_bytes h.snapshot s (λ i. (b i).fits)) y.holds.fine in omega (arith, held_long)))
 
   module _ (f : Frame) (ef : f ≡ frame_of h times) where
-    pub held_sent : (w : Writing) (r : Sent) → w ≡ writing_of v f (all_new (take (held - 0) (drop 0 s))) (length o) → r ≡ sent_of f w →
+    pub held_sent : (w : Option Tally) (r : Sent) → w ≡ writing_of v f (all_new (take (held - 0) (drop 0 s))) (length o) → r ≡ sent_of f w →
         r ≡ sent_at (data_plan v (frame_of h times) (all_new (held_snapshot h s))) (length o)
     held_sent w r q d = rw (ef, held_is) at (d ∙ data_sent v f (all_new (take (held - 0) (drop 0 s))) o w q)
 

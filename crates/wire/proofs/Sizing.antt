@@ -12,7 +12,6 @@ use Rattle.order.proofs.Never.{never}
 use Rattle.number.specs.Bytes.{AllBytes}
 use Rattle.body.specs.declared.tag.Form.TheVariants.{Snapshot, Delta}
 use Rattle.body.specs.Origin.{family}
-use Rattle.field.specs.declared.verdict.Verdict.TheVariants.{Fine}
 use Rattle.field.specs.Verdict.{verdict}
 use Rattle.field.specs.Cells as run
 use Rattle.payload.specs.Content.{Bytes}
@@ -34,6 +33,7 @@ use Rattle.wire.specs.Tally.{saying}
 use Rattle.wire.proofs.Saying.{X, D, saying_cons, saying_none, said_one, unsaid_one}
 use Rattle.wire.proofs.Counting.{Shape, an_origin, a_router_key, an_aspa, shape_of, aspas_unspoken}
 use Rattle.wire.proofs.Framing.{bytes_long}
+use Rattle.std.specs.Prelude.{Ok}
 
 field_long : (x : X) (d : D) → 3 + length (drop 1 x.key) + length (writes Delta d) ≤ length (writes Delta (x ∷ d))
 unfolding run.cell_bytes run.field
@@ -66,6 +66,6 @@ pub answer_short : (v : Version) (f : Frame) (d : D) (m : ℕ) → All (Valid De
 answer_short v f d m h l = let s = saying_short v d h in omega (arith, bytes_long v f d)
 
 -- a snapshot's fields announced take no more bytes than it has
-pub new_short : (s : Bytes) → AllBytes s → verdict Snapshot s ≡ Fine → length (writes Delta (all_new s)) ≤ length s
+pub new_short : (s : Bytes) → AllBytes s → verdict Snapshot s ≡ Ok tt → length (writes Delta (all_new s)) ≤ length s
 unfolding encode run.cell_bytes
 new_short s o f = omega (arith, diff_length [] (items s), ap length ((faithful Snapshot).bytes_back s o f))

@@ -1,5 +1,5 @@
 -- What the calls that write messages answer, and what they leave in the output.
-use Rattle.std.specs.Prelude.{ℕ, [], map, cond, leb, length}
+use Rattle.std.specs.Prelude.{ℕ, [], map, cond, leb, length, Err, Ok, Result}
 use Rattle.order.specs.Comparison.{bytes}
 use Rattle.change.specs.Difference.{Delta, diff}
 use Rattle.change.specs.Merge.{merge_all}
@@ -24,9 +24,9 @@ use Rattle.past.specs.WellFormed.{well_formed}
 use Rattle.past.specs.Query.{is_served, is_session}
 use Rattle.wire.specs.declared.tally.Tally.{Tally}
 use Rattle.wire.specs.declared.frame.Frame.{Frame}
-use Rattle.wire.specs.declared.sent.Reply.{Reply}
-use Rattle.wire.specs.declared.sent.Reply.TheVariants.{Refused, Data, Reset, Report}
 use Rattle.wire.specs.declared.sent.Sent.{Sent}
+use Rattle.wire.specs.declared.sent.Reply.TheVariants as reply
+use Rattle.wire.specs.declared.sent.Reply.{Reply}
 
 -- what a history's answers name: the 16-bit session, F, and the times as `timing` hands them out
 abbrev pub frame_of : History → Timing → Frame
@@ -53,11 +53,11 @@ pub data Plan : Type 0 where
   write : (written : Bytes) → Sent → Plan
 
 -- an answer that names no session and no serial
-abbrev pub aside : Reply → Sent
+abbrev pub aside : Result Reply Refusal → Sent
 aside r = record { session = zero_session; serial = zero_serial; reply = r }
 
 abbrev pub refused_with : Refusal → Sent
-refused_with r = aside (Refused r)
+refused_with r = aside (Err r)
 
 -- 4 if the bytes are more than the output lent
 unfoldable pub sent_at : Plan → ℕ → Sent
@@ -71,18 +71,18 @@ out_at (write b s) out = written_if_room b out
 
 -- Cache Response, the messages of a delta, End of Data
 unfoldable pub data_plan : Version → Frame → Delta Bytes Bytes → Plan
-data_plan v f D = write (answer_bytes v f D) (record { session = f.session; serial = f.serial; reply = Data (tally_of v (answer_bytes v f D) D) })
+data_plan v f D = write (answer_bytes v f D) (record { session = f.session; serial = f.serial; reply = Ok (reply.Data (tally_of v (answer_bytes v f D) D)) })
 
 -- Cache Reset
 unfoldable pub reset_plan : Version → Plan
-reset_plan v = write (pdu v cache_reset) (aside (Reset (length (pdu v cache_reset))))
+reset_plan v = write (pdu v cache_reset) (aside (Ok (reply.Reset (length (pdu v cache_reset)))))
 
 -- the Error Report that the RFC asks for where sessions differ: code 0, the Serial Query enclosed, no text
 abbrev pub report_bytes : Version → Session → Serial → Bytes
 report_bytes v session asked = pdu v (error_report 0 (pdu v (serial_query session.0 asked.0)) [])
 
 unfoldable pub report_plan : Version → Session → Serial → Plan
-report_plan v session asked = write (report_bytes v session asked) (aside (Report (length (report_bytes v session asked))))
+report_plan v session asked = write (report_bytes v session asked) (aside (Ok (reply.Report (length (report_bytes v session asked)))))
 
 -- ---- the calls
 
@@ -113,4 +113,4 @@ abbrev pub notice_bytes : Version → History → Bytes
 notice_bytes v h = pdu v (serial_notify (session_of h.session).0 h.newest.0)
 
 unfoldable pub notify_plan : Version → History → Plan
-notify_plan v h = write (notice_bytes v h) (record { session = session_of h.session; serial = h.newest; reply = Data (tally_of v (notice_bytes v h) []) })
+notify_plan v h = write (notice_bytes v h) (record { session = session_of h.session; serial = h.newest; reply = Ok (reply.Data (tally_of v (notice_bytes v h) [])) })

@@ -1,5 +1,5 @@
 -- How far the writing of items has come: what is left, and the origins of a snapshot.
-use Rattle.std.specs.Prelude.{ℕ, ◌+◌, ◌*◌, ◌≤◌, ◌≡◌, ◌∷◌, length, get_or, drop}
+use Rattle.std.specs.Prelude.{ℕ, ◌+◌, ◌*◌, ◌≤◌, ◌≡◌, ◌∷◌, length, get_or, drop, ◌⊎◌}
 use Rattle.std.proofs.lemmas.List.Edits.{sets}
 use Rattle.order.specs.Map.{All}
 use Rattle.change.specs.Difference as change
@@ -53,6 +53,10 @@ origin_act at = Announce (record { from = at + 26; to = at + 26 })
 -- the message that announces it
 abbrev pub origin_pdu : Version → Bytes → ℕ → Bytes
 origin_pdu v s at = pdu v (message_of 1 (key_in s (origin_key at)))
+
+-- the number of a family: 4 or 6
+pub record IsFamily (number : ℕ) : Type 0 where
+  pub is : (number ≡ 4) ⊎ (number ≡ 6)
 
 -- the snapshot s has an origin of the family of this number at `at`, and goes on 26 bytes behind
 pub record OriginAt (s : Bytes) (at number : ℕ) : Type 0 where

@@ -1,10 +1,9 @@
 -- How far the writing of an answer has come: what each part of it may assume, and what it leaves.
-use Rattle.std.specs.Prelude.{ℕ, ◌+◌, ◌≤◌, ◌≡◌, List, cond, leb, length}
+use Rattle.std.specs.Prelude.{ℕ, ◌+◌, ◌≤◌, ◌≡◌, cond, leb, length, None, Option, Some, Ok}
 use Rattle.std.proofs.lemmas.List.Edits.{sets}
 use Rattle.order.specs.Map.{All}
 use Rattle.change.specs.Difference as change
 use Rattle.body.specs.declared.tag.Form.TheVariants.{Snapshot, Delta}
-use Rattle.field.specs.declared.verdict.Verdict.TheVariants.{Fine}
 use Rattle.field.specs.Verdict.{verdict}
 use Rattle.payload.specs.Content.{Bytes}
 use Rattle.payload.specs.Limit.{limit}
@@ -16,15 +15,15 @@ use Rattle.message.specs.Message.{cache_response, end_of_data, pdu}
 use Rattle.delta.specs.declared.refusal.Refusal.TheVariants as refusal
 use Rattle.past.specs.declared.state.History.{History}
 use Rattle.past.specs.Store.{held_snapshot}
-use Rattle.cursors.specs.Cursor.{Bounded, runs}
+use Rattle.cursors.specs.declared.runs.Walk.{Walk}
+use Rattle.cursors.specs.Cursor.{runs}
+use Rattle.cursors.specs.Walk.{Starts}
 use Rattle.wire.specs.declared.tally.Tally.{Tally}
 use Rattle.wire.specs.declared.frame.Frame.{Frame}
-use Rattle.wire.specs.declared.sent.Reply.TheVariants.{Data}
 use Rattle.wire.specs.declared.sent.Sent.{Sent}
-use Rattle.wire.specs.declared.sent.Writing.{Writing}
-use Rattle.wire.specs.declared.sent.Writing.TheVariants.{NoRoom, Whole}
 use Rattle.wire.specs.Answer.{answer_bytes, tally_of, refused_with}
 use Rattle.wire.specs.Tally.{saying, plus_all, start, Countable}
+use Rattle.wire.specs.declared.sent.Reply.TheVariants as reply
 
 -- the Cache Response is written if there is room for it
 pub record OpenIs (v : Version) (f : Frame) (o o' : Bytes) : Type 0 where
@@ -55,25 +54,25 @@ pub record AnswerIs (v : Version) (f : Frame) (D : change.Delta Bytes Bytes) (o 
   pub laid : length (answer_bytes v f D) ≤ length o → o' ≡ sets o 0 (answer_bytes v f D)
 
 -- the whole of it, or nothing
-abbrev pub writing_of : Version → Frame → change.Delta Bytes Bytes → ℕ → Writing
-writing_of v f D room = cond (leb (length (answer_bytes v f D)) room) (Whole (tally_of v (answer_bytes v f D) D)) NoRoom
+abbrev pub writing_of : Version → Frame → change.Delta Bytes Bytes → ℕ → Option Tally
+writing_of v f D room = cond (leb (length (answer_bytes v f D)) room) (Some (tally_of v (answer_bytes v f D) D)) None
 
 abbrev pub answer_out : Version → Frame → change.Delta Bytes Bytes → Bytes → Bytes
 answer_out v f D out = written_if_room (answer_bytes v f D) out
 
 -- the answer of what was written, or not
-abbrev pub sent_of : Frame → Writing → Sent
-sent_of f NoRoom = refused_with refusal.NoRoom
-sent_of f (Whole t) = record { session = f.session; serial = f.serial; reply = Data t }
+abbrev pub sent_of : Frame → Option Tally → Sent
+sent_of f None = refused_with refusal.NoRoom
+sent_of f (Some t) = record { session = f.session; serial = f.serial; reply = Ok (reply.Data t) }
 
--- runs of good deltas
-pub record Merges (s : Bytes) (at ends : List ℕ) (from n : ℕ) : Type 0 where
-  pub bounded : Bounded s at ends from n
-  pub maps : All (IsMap Delta) (runs s at ends from n)
+-- a walk at its start, over good deltas
+pub record Merges (w : Walk) : Type 0 where
+  pub starts : Starts w
+  pub maps : All (IsMap Delta) (runs w.store.now w.at w.ends w.from w.n)
 
 -- a good snapshot within the limit
 pub record Holds (s : Bytes) : Type 0 where
-  pub fine : verdict Snapshot s ≡ Fine
+  pub fine : verdict Snapshot s ≡ Ok tt
   pub small : length s ≤ limit Snapshot
 
 -- a history's snapshot, good and within the limit

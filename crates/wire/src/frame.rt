@@ -38,8 +38,7 @@ pub(crate) fn open(version: Version, frame: Frame, out: &mut [u8])
     if out.len() < 8 {
         return;
     }
-    let session = frame.session;
-    put_response(version, session, out, 0);
+    put_response(version, frame.session, out, 0);
 }
 
 // The End of Data behind what was written so far, if there is room for it.
@@ -50,18 +49,19 @@ pub(crate) fn close(version: Version, frame: Frame, out: &mut [u8], t: Tally) ->
     let size = end_length(version);
     let all = Tally {
         len: t.len + size,
-        announced: t.announced,
-        withdrawn: t.withdrawn,
-        keys: t.keys,
-        aspas: t.aspas,
+        ..t
     };
     if out.len() < t.len + size {
         return all;
     }
-    let session = frame.session;
-    let serial = frame.serial;
-    let times = frame.times;
-    put_end(version, session, serial, times, out, t.len);
+    put_end(
+        version,
+        frame.session,
+        frame.serial,
+        frame.times,
+        out,
+        t.len,
+    );
     all
 }
 

@@ -11,7 +11,6 @@ use crate::sent::{Sent, refused};
 use crate::snapshot::put_snapshot;
 use delta::refusal::Refusal;
 use history::well_formed::well_formed;
-use merged::lengths::wide;
 use message::version::Version;
 use past::state::History;
 use serial::timing::Timing;
@@ -28,7 +27,7 @@ fn send_all(
     ensures { (result ≡ sent_at (data_plan version (frame_of history times) (all_new (held_snapshot history snapshots.now))) (length out.old)) × (out.new ≡ out_at (data_plan version (frame_of history times) (all_new (held_snapshot history snapshots.now))) out.old) }
 {
     let frame = frame_of(history, times);
-    let held = wide(history.snapshot);
+    let held = history.snapshot as usize;
     let most = most_of(version, held);
     let writing = put_snapshot(version, frame, &snapshots[0..held], most, out);
     sent_of(frame, writing)

@@ -30,6 +30,6 @@ pub fn notify_message(version: Version, history: History, out: &mut [u8]) -> Sen
     Sent {
         session,
         serial,
-        reply: Reply::Data(t),
+        reply: Ok(Reply::Data(t)),
     }
 }

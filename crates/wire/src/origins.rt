@@ -4,7 +4,7 @@ ghost use Rattle.field.specs.If.{If};
 ghost use Rattle.item.specs.declared.reading.Reading.TheVariants.{Announced};
 ghost use Rattle.item.specs.Reading.{Ready};
 ghost use Rattle.pdu.specs.Write.{PutIs};
-ghost use Rattle.wire.specs.Left.{Listed, counted, OriginAt, origin_pdu, Passed};
+ghost use Rattle.wire.specs.Left.{Listed, counted, IsFamily, OriginAt, origin_pdu, Passed};
 
 use crate::tally::Tally;
 use message::version::Version;
@@ -22,13 +22,7 @@ fn origin_at(s: &[u8], at: usize, family: u8) -> bool
     requires { Ready Announced s.now at }
     ensures { If result (OriginAt s.now at family) }
 {
-    if s.len() - at < 26 {
-        return false;
-    }
-    if s[at] != 1 {
-        return false;
-    }
-    s[at + 3] == family
+    26 <= s.len() - at && s[at] == 1 && s[at + 3] == family
 }
 
 // The message of the IPv4 origin at a place, if there is room for all of it; its size in any case.
@@ -55,6 +49,24 @@ fn put_six(version: Version, s: &[u8], at: usize, out: &mut [u8], i: usize) -> u
     32
 }
 
+// The message of the origin of this family at a place, if there is room for all of it; its size in any case.
+fn put_origin<const FAMILY: u8>(
+    version: Version,
+    s: &[u8],
+    at: usize,
+    out: &mut [u8],
+    i: usize,
+) -> usize
+    requires { OriginAt s.now at FAMILY × (i < 2 ^ 62) × IsFamily FAMILY }
+    ensures { PutIs (origin_pdu version s.now at) out.old i out.new result }
+{
+    if FAMILY == 4 {
+        put_four(version, s, at, out, i)
+    } else {
+        put_six(version, s, at, out, i)
+    }
+}
+
 // What was counted, with another length and another number of announcements.
 fn run_to(at: usize, len: usize, announced: usize, t: Tally) -> RunEnd
     ensures { result ≡ record { at = at; tally = counted t len announced } }
@@ -64,40 +76,28 @@ fn run_to(at: usize, len: usize, announced: usize, t: Tally) -> RunEnd
         tally: Tally {
             len,
             announced,
-            withdrawn: t.withdrawn,
-            keys: t.keys,
-            aspas: t.aspas,
+            ..t
         },
     }
 }
 
-// The messages of the IPv4 origins from `from` on, up to the first other field. An origin adds to two of the counts alone.
-fn put_fours(version: Version, s: &[u8], from: usize, out: &mut [u8], t: Tally) -> RunEnd
-    requires { Listed s.now from t }
+// The messages of the origins of this family from `from` on, up to the first other field. An origin adds to two of the
+// counts alone.
+fn put_run<const FAMILY: u8>(
+    version: Version,
+    s: &[u8],
+    from: usize,
+    out: &mut [u8],
+    t: Tally,
+) -> RunEnd
+    requires { Listed s.now from t × IsFamily FAMILY }
     ensures { Passed version s.now from t out.old out.new result }
 {
     let mut at = from;
     let mut len = t.len;
     let mut announced = t.announced;
-    while origin_at(s, at, 4) {
-        let size = put_four(version, s, at, out, len);
-        len += size;
-        at += 26;
-        announced += 1;
-    }
-    run_to(at, len, announced, t)
-}
-
-// The same of the IPv6 origins.
-fn put_sixes(version: Version, s: &[u8], from: usize, out: &mut [u8], t: Tally) -> RunEnd
-    requires { Listed s.now from t }
-    ensures { Passed version s.now from t out.old out.new result }
-{
-    let mut at = from;
-    let mut len = t.len;
-    let mut announced = t.announced;
-    while origin_at(s, at, 6) {
-        let size = put_six(version, s, at, out, len);
+    while origin_at(s, at, FAMILY) {
+        let size = put_origin::<FAMILY>(version, s, at, out, len);
         len += size;
         at += 26;
         announced += 1;
@@ -116,7 +116,6 @@ pub(crate) fn put_origins(
     requires { Listed s.now from t }
     ensures { Passed version s.now from t out.old out.new result }
 {
-    let fours = put_fours(version, s, from, out, t);
-    let sum = fours.tally;
-    put_sixes(version, s, fours.at, out, sum)
+    let fours = put_run::<4>(version, s, from, out, t);
+    put_run::<6>(version, s, fours.at, out, fours.tally)
 }

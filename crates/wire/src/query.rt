@@ -7,11 +7,13 @@ ghost use Rattle.wire.specs.Put.{writing_of, answer_out, sent_of};
 
 use crate::deltas::put_merged;
 use crate::frame::{Frame, frame_of};
-use crate::sent::{Reply, Sent, Writing, alone, refused};
+use crate::sent::{Reply, Sent, alone, refused};
+use crate::tally::Tally;
+use cursors::runs::Walk;
 use delta::refusal::Refusal;
 use history::query::{is_served, is_session};
 use history::well_formed::well_formed;
-use merged::lengths::{sum_lengths, wide};
+use merged::lengths::sum_lengths;
 use merged::place::place_all;
 use message::version::{Version, end_length};
 use past::state::History;
@@ -28,19 +30,17 @@ pub(crate) fn most_of(version: Version, fields: usize) -> usize
 }
 
 // The answer of data that was written, or not.
-pub(crate) fn sent_of(frame: Frame, writing: Writing) -> Sent
+pub(crate) fn sent_of(frame: Frame, writing: Option<Tally>) -> Sent
     ensures { result ≡ sent_of frame writing }
 {
-    if let Writing::Whole(t) = writing {
-        let session = frame.session;
-        let serial = frame.serial;
-        return Sent {
-            session,
-            serial,
-            reply: Reply::Data(t),
-        };
+    let Some(t) = writing else {
+        return refused(Refusal::NoRoom);
+    };
+    Sent {
+        session: frame.session,
+        serial: frame.serial,
+        reply: Ok(Reply::Data(t)),
     }
-    refused(Refusal::NoRoom)
 }
 
 // A Cache Reset.
@@ -51,7 +51,7 @@ fn reset(version: Version, out: &mut [u8]) -> Sent
         return refused(Refusal::NoRoom);
     }
     put_reset(version, out, 0);
-    alone(Reply::Reset(8))
+    alone(Ok(Reply::Reset(8)))
 }
 
 // An Error Report, of another session.
@@ -62,7 +62,7 @@ fn report(version: Version, session: Session, asked: Serial, out: &mut [u8]) -> 
         return refused(Refusal::NoRoom);
     }
     put_report(version, session, asked, out, 0);
-    alone(Reply::Report(28))
+    alone(Ok(Reply::Report(28)))
 }
 
 // The last d of the n deltas of these lengths, merged.
@@ -74,13 +74,14 @@ fn put_last(
     n: usize,
     d: usize,
     out: &mut [u8],
-) -> Writing
+) -> Option<Tally>
     requires { Stored store.now lengths n × (d ≤ n) }
     ensures { (result ≡ writing_of version frame (last_merged store.now lengths n d) (length out.old)) × (out.new ≡ answer_out version frame (last_merged store.now lengths n d) out.old) }
 {
     let places = place_all(lengths, n);
     let most = most_of(version, sum_lengths(lengths, n - d, n));
-    put_merged(version, frame, store, places, n - d, n, most, out)
+    let mut walk = Walk::new(store, places.at, places.ends, n - d, n);
+    put_merged(version, frame, &mut walk, most, out)
 }
 
 // The last d deltas of a history.
@@ -96,9 +97,9 @@ fn serve(
     ensures { (result ≡ sent_at (data_plan version (frame_of history times) (last_merged deltas.now history.deltas history.n d)) (length out.old)) × (out.new ≡ out_at (data_plan version (frame_of history times) (last_merged deltas.now history.deltas history.n d)) out.old) }
 {
     let lengths = history.deltas;
-    let n = wide(history.n);
+    let n = history.n as usize;
     let frame = frame_of(history, times);
-    let writing = put_last(version, frame, deltas, lengths, n, wide(d), out);
+    let writing = put_last(version, frame, deltas, lengths, n, d as usize, out);
     sent_of(frame, writing)
 }
 
@@ -121,10 +122,8 @@ pub fn query_messages(
     if !is_session(history, session) {
         return report(version, session, asked, out);
     }
-    let newest = history.newest;
-    let start = history.start;
-    let d = distance(newest, asked);
-    if !is_served(start, history.n, asked, d) {
+    let d = distance(history.newest, asked);
+    if !is_served(history.start, history.n, asked, d) {
         return reset(version, out);
     }
     serve(version, history, d, times, deltas, out)

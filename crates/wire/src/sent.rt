@@ -8,7 +8,6 @@ use serial::{Serial, Session};
 
 #[derive(Clone, Copy)]
 pub enum Reply {
-    Refused(Refusal),
     // The messages that were written.
     Data(Tally),
     // A Cache Reset of this length.
@@ -21,18 +20,11 @@ pub enum Reply {
 pub struct Sent {
     pub session: Session,
     pub serial: Serial,
-    pub reply: Reply,
-}
-
-// Whether an answer was written.
-#[derive(Clone, Copy)]
-pub enum Writing {
-    NoRoom,
-    Whole(Tally),
+    pub reply: Result<Reply, Refusal>,
 }
 
 // An answer that names no session and no serial.
-pub(crate) fn alone(reply: Reply) -> Sent
+pub(crate) fn alone(reply: Result<Reply, Refusal>) -> Sent
     ensures { result ≡ aside reply }
 {
     Sent {
@@ -46,5 +38,5 @@ pub(crate) fn alone(reply: Reply) -> Sent
 pub(crate) fn refused(refusal: Refusal) -> Sent
     ensures { result ≡ refused_with refusal }
 {
-    alone(Reply::Refused(refusal))
+    alone(Err(refusal))
 }

@@ -5,9 +5,8 @@ ghost use Rattle.wire.specs.Put.{Holds, LaidIs, AnswerIs, TallyIs, writing_of, a
 
 use crate::frame::{Frame, close, open, opened};
 use crate::origins::put_origins;
-use crate::sent::Writing;
 use crate::tally::{Tally, put_item};
-use item::reading::{Read, Reading, read_at};
+use item::reading::{Reading, read_at};
 use message::version::Version;
 
 // The messages of a good snapshot: runs of origins, and the fields between them.
@@ -19,13 +18,10 @@ fn put_items(version: Version, s: &[u8], out: &mut [u8]) -> Tally
     let mut at = 0;
     loop {
         let run = put_origins(version, s, at, out, t);
-        let sum = run.tally;
-        let Read::One(entry) = read_at(Reading::Announced, s, run.at) else {
-            return sum;
+        let Some(entry) = read_at(Reading::Announced, s, run.at) else {
+            return run.tally;
         };
-        let key = entry.key;
-        let act = entry.act;
-        t = put_item(version, s, key, act, out, sum);
+        t = put_item(version, s, entry.key, entry.act, out, run.tally);
         at = entry.next;
     }
 }
@@ -50,24 +46,24 @@ fn measure(version: Version, frame: Frame, s: &[u8]) -> Tally
 }
 
 // The answer, which has at most so many bytes, if there is room for all of it; else nothing is written.
+// Kept: as `put_merged`, over a snapshot: a closure that writes would be called under two outputs.
 pub(crate) fn put_snapshot(
     version: Version,
     frame: Frame,
     s: &[u8],
     most: usize,
     out: &mut [u8],
-) -> Writing
+) -> Option<Tally>
     requires { Holds s.now × (length (answer_bytes version frame (all_new s.now)) ≤ most) }
     ensures { (result ≡ writing_of version frame (all_new s.now) (length out.old)) × (out.new ≡ answer_out version frame (all_new s.now) out.old) }
 {
     if most <= out.len() {
-        return Writing::Whole(put_full(version, frame, s, out));
+        return Some(put_full(version, frame, s, out));
     }
     let t = measure(version, frame, s);
-    let len = t.len;
-    if out.len() < len {
-        return Writing::NoRoom;
+    if out.len() < t.len {
+        return None;
     }
     put_full(version, frame, s, out);
-    Writing::Whole(t)
+    Some(t)
 }

@@ -6,7 +6,6 @@ ghost use Rattle.wire.specs.Tally.{Countable, Says, plus_place, skip_place, Item
 use field::key::Key;
 use item::place::Act;
 use message::version::{Version, is_spoken};
-use number::wide;
 use pdu::record::{flags_of, put_message};
 
 // The bytes of all messages, how many of them announce and withdraw, and the items that there is no message for.
@@ -24,13 +23,12 @@ fn plus(t: Tally, flags: u8, size: usize) -> Tally
     requires { Countable t × ((flags ≤ 1) × (size ≤ 1056)) }
     ensures { result ≡ plus_place t flags size }
 {
-    let announces = wide(flags);
+    let announces = usize::from(flags);
     Tally {
         len: t.len + size,
         announced: t.announced + announces,
         withdrawn: t.withdrawn + (1 - announces),
-        keys: t.keys,
-        aspas: t.aspas,
+        ..t
     }
 }
 
@@ -41,19 +39,13 @@ fn skip(t: Tally, kind: u8) -> Tally
 {
     if kind == 2 {
         return Tally {
-            len: t.len,
-            announced: t.announced,
-            withdrawn: t.withdrawn,
             keys: t.keys + 1,
-            aspas: t.aspas,
+            ..t
         };
     }
     Tally {
-        len: t.len,
-        announced: t.announced,
-        withdrawn: t.withdrawn,
-        keys: t.keys,
         aspas: t.aspas + 1,
+        ..t
     }
 }
 

@@ -2,8 +2,8 @@ use Rattle.std.proofs.Common.{rules}
 use Rattle.appliance.proofs.Gathering.{gathering}
 use Rattle.appliance.proofs.query_all.query_all.Goals as goal
 
-pub returns-in-No : goal.returns-in-No
-returns-in-No c = search (gathering, rules)
+pub returns-in-Err : goal.returns-in-Err
+returns-in-Err c = search (gathering, rules)
 
 pub loop-k-init : goal.loop-k-init
 loop-k-init c = search (gathering, rules)

@@ -1,9 +1,5 @@
-use Rattle.std.proofs.Common.{◌-◌}
 use Rattle.appliance.proofs.Gathering.{Gathering}
 use Rattle.appliance.proofs.query_all.query_all.Given as goal
 
 abbrev pub invariant-loop-k : goal.invariant-loop-k
 invariant-loop-k l = Gathering l.history l.snapshots l.deltas l.queries l.initial.out l.count l.replies l.table l.used l.k l.out
-
-abbrev pub decreases-loop-k : goal.decreases-loop-k
-decreases-loop-k l = l.count - l.k

@@ -7,6 +7,3 @@ is_clear-requires c = search (chunked, rules)
 
 pub returns-then-is_clear : goal.returns-then-is_clear
 returns-then-is_clear c = search (chunked, rules)
-
-pub walk_halves-requires : goal.walk_halves-requires
-walk_halves-requires c = search (chunked, rules)

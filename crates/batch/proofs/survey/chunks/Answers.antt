@@ -2,8 +2,8 @@ use Rattle.std.proofs.Common.{rules}
 use Rattle.batch.proofs.Surveying.{surveying}
 use Rattle.batch.proofs.survey.chunks.Goals as goal
 
-pub loop-at-init : goal.loop-at-init
-loop-at-init c = search (surveying, rules)
+pub loop-c-init : goal.loop-c-init
+loop-c-init c = search (surveying, rules)
 
-pub loop-at-preserved : goal.loop-at-preserved
-loop-at-preserved c = search (surveying, rules)
+pub loop-c-preserved : goal.loop-c-preserved
+loop-c-preserved c = search (surveying, rules)

@@ -5,17 +5,14 @@ use Rattle.body.proofs.aspa.ascending_asns.Goals as goal
 pub returns-then-s-lt4 : goal.returns-then-s-lt4
 returns-then-s-lt4 c = search (ascent, rules)
 
-pub loop-i-init : goal.loop-i-init
-loop-i-init c = search (ascent, rules)
+pub loop-k-init : goal.loop-k-init
+loop-k-init c = search (ascent, rules)
 
-pub loop-i-preserved : goal.loop-i-preserved
-loop-i-preserved c = search (ascent, rules)
+pub returns-then-asn-before : goal.returns-then-asn-before
+returns-then-asn-before c = search (ascent, rules)
 
-pub returns-in-Equal : goal.returns-in-Equal
-returns-in-Equal c = search (ascent, rules)
-
-pub returns-in-Greater : goal.returns-in-Greater
-returns-in-Greater c = search (ascent, rules)
+pub loop-k-preserved : goal.loop-k-preserved
+loop-k-preserved c = search (ascent, rules)
 
 pub returns : goal.returns
 returns c = search (ascent, rules)

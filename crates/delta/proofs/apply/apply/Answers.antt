@@ -1,21 +1,22 @@
+use Rattle.std.proofs.lemmas.Result.{err_from_is_err_and}
 use Rattle.std.proofs.Common.{rules}
 use Rattle.delta.proofs.Answering.{applying}
 use Rattle.delta.proofs.apply.apply.Goals as goal
 
-pub returns-in-No : goal.returns-in-No
-returns-in-No c = search (applying, rules)
+pub returns-in_err-admit : goal.returns-in_err-admit
+returns-in_err-admit c = let p = err_from_is_err_and c.from_residual.result c.from_residual.ensures.1 in rw (p.1, p.2) (search (applying, rules))
 
 pub first_misfit-requires : goal.first_misfit-requires
 first_misfit-requires c = search (applying, rules)
 
-pub returns-in-Misfit : goal.returns-in-Misfit
-returns-in-Misfit c = search (applying, rules)
+pub returns-in-Some : goal.returns-in-Some
+returns-in-Some c = search (applying, rules)
 
 pub put_whole-requires : goal.put_whole-requires
 put_whole-requires c = search (applying, rules)
 
-pub returns-in-NoRoom : goal.returns-in-NoRoom
-returns-in-NoRoom c = search (applying, rules)
+pub returns-in_default-put_whole : goal.returns-in_default-put_whole
+returns-in_default-put_whole c = search (applying, rules)
 
-pub returns-in-Written : goal.returns-in-Written
-returns-in-Written c = search (applying, rules)
+pub returns : goal.returns
+returns c = search (applying, rules)

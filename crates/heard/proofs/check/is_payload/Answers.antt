@@ -8,20 +8,11 @@ returns-then-size-ne20 c = search (checking, rules)
 pub returns-then-s-at-gt1 : goal.returns-then-s-at-gt1
 returns-then-s-at-gt1 c = search (checking, rules)
 
-pub returns-then-kind-eq4 : goal.returns-then-kind-eq4
-returns-then-kind-eq4 c = search (checking, rules)
-
 pub returns-then-size-ne32 : goal.returns-then-size-ne32
 returns-then-size-ne32 c = search (checking, rules)
 
 pub returns-then-s-at-gt1-2 : goal.returns-then-s-at-gt1-2
 returns-then-s-at-gt1-2 c = search (checking, rules)
-
-pub returns-then-kind-eq6 : goal.returns-then-kind-eq6
-returns-then-kind-eq6 c = search (checking, rules)
-
-pub returns-then-kind-ne9 : goal.returns-then-kind-ne9
-returns-then-kind-ne9 c = search (checking, rules)
 
 pub returns-then-not-is_spoken : goal.returns-then-not-is_spoken
 returns-then-not-is_spoken c = search (checking, rules)
@@ -32,5 +23,14 @@ returns-then-size-lt32 c = search (checking, rules)
 pub returns-then-s-at-gt1-3 : goal.returns-then-s-at-gt1-3
 returns-then-s-at-gt1-3 c = search (checking, rules)
 
-pub returns : goal.returns
-returns c = search (checking, rules)
+pub returns-else-s-at-gt1 : goal.returns-else-s-at-gt1
+returns-else-s-at-gt1 c = search (checking, rules)
+
+pub returns-else-s-at-gt1-2 : goal.returns-else-s-at-gt1-2
+returns-else-s-at-gt1-2 c = search (checking, rules)
+
+pub returns-else-s-at-gt1-3 : goal.returns-else-s-at-gt1-3
+returns-else-s-at-gt1-3 c = search (checking, rules)
+
+pub returns-in_default : goal.returns-in_default
+returns-in_default c = search (checking, rules)

@@ -1,15 +1,12 @@
 use Rattle.std.proofs.Common.{rules}
-use Rattle.heard.proofs.Comparing.{behinds}
+use Rattle.heard.proofs.Comparing.{orders}
 use Rattle.heard.proofs.compare.is_before_behind.Goals as goal
 
-pub four_last-requires-then-kind-eq4 : goal.four_last-requires-then-kind-eq4
-four_last-requires-then-kind-eq4 c = search (behinds, rules)
+pub returns-in-Less : goal.returns-in-Less
+returns-in-Less c = search (orders, rules)
 
-pub returns-then-kind-eq4 : goal.returns-then-kind-eq4
-returns-then-kind-eq4 c = search (behinds, rules)
+pub returns-in-Equal : goal.returns-in-Equal
+returns-in-Equal c = search (orders, rules)
 
-pub is_before_six-requires : goal.is_before_six-requires
-is_before_six-requires c = search (behinds, rules)
-
-pub is_before_key-requires : goal.is_before_key-requires
-is_before_key-requires c = search (behinds, rules)
+pub returns-in-Greater : goal.returns-in-Greater
+returns-in-Greater c = search (orders, rules)

@@ -8,8 +8,8 @@ returns-then-not-is_open c = search (hearing, rules)
 pub loop-stop-init : goal.loop-stop-init
 loop-stop-init c = search (hearing, rules)
 
-pub returns-in-Halt : goal.returns-in-Halt
-returns-in-Halt c = search (hearing, rules)
+pub returns-in-Some : goal.returns-in-Some
+returns-in-Some c = search (hearing, rules)
 
 pub loop-stop-preserved : goal.loop-stop-preserved
 loop-stop-preserved c = search (hearing, rules)

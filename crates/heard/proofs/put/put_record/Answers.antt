@@ -5,11 +5,11 @@ use Rattle.heard.proofs.put.put_record.Goals as goal
 pub store_words-requires : goal.store_words-requires
 store_words-requires c = search (records, rules)
 
-pub returns-then-kind-eq4 : goal.returns-then-kind-eq4
-returns-then-kind-eq4 c = search (records, rules)
+pub store_words-requires-in-6 : goal.store_words-requires-in-6
+store_words-requires-in-6 c = search (records, rules)
 
-pub store_words-requires-then-kind-eq6 : goal.store_words-requires-then-kind-eq6
-store_words-requires-then-kind-eq6 c = search (records, rules)
+pub returns-in-4 : goal.returns-in-4
+returns-in-4 c = search (records, rules)
 
-pub returns-then-kind-eq6 : goal.returns-then-kind-eq6
-returns-then-kind-eq6 c = search (records, rules)
+pub returns-in-6 : goal.returns-in-6
+returns-in-6 c = search (records, rules)

@@ -1,9 +1,5 @@
-use Rattle.std.proofs.Common.{◌-◌}
 use Rattle.history.proofs.Pushing.{Shifts}
 use Rattle.history.proofs.push.push_length.Given as goal
 
 abbrev pub invariant-loop-i : goal.invariant-loop-i
 invariant-loop-i l = Shifts l.lens l.first l.n l.count l.next l.i
-
-abbrev pub decreases-loop-i : goal.decreases-loop-i
-decreases-loop-i l = l.count - l.i

@@ -2,8 +2,8 @@ use Rattle.std.proofs.Common.{rules}
 use Rattle.history.proofs.Asking.{querying}
 use Rattle.history.proofs.query.query.Goals as goal
 
-pub returns-in-No : goal.returns-in-No
-returns-in-No c = search (querying, rules)
+pub returns-in-Err : goal.returns-in-Err
+returns-in-Err c = search (querying, rules)
 
 pub serve-requires : goal.serve-requires
 serve-requires c = search (querying, rules)

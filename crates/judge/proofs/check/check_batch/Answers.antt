@@ -5,5 +5,5 @@ use Rattle.judge.proofs.check.check_batch.Goals as goal
 pub check_one-c-requires : goal.check_one-c-requires
 check_one-c-requires c = search (checking, rules)
 
-pub loop-i-preserved : goal.loop-i-preserved
-loop-i-preserved c = search (checking, rules)
+pub loop-x-preserved : goal.loop-x-preserved
+loop-x-preserved c = search (checking, rules)

@@ -11,14 +11,14 @@ misfit-requires c = search (judging_heard, rules)
 pub returns-then-least-over : goal.returns-then-least-over
 returns-then-least-over c = search (judging_heard, rules)
 
+pub returns-in-Err : goal.returns-in-Err
+returns-in-Err c = search (judging_heard, rules)
+
 pub put_all-requires : goal.put_all-requires
 put_all-requires c = search (judging_heard, rules)
 
-pub returns-in-Faulty : goal.returns-in-Faulty
-returns-in-Faulty c = search (judging_heard, rules)
+pub returns-in_default : goal.returns-in_default
+returns-in_default c = search (judging_heard, rules)
 
-pub returns-in-Over : goal.returns-in-Over
-returns-in-Over c = search (judging_heard, rules)
-
-pub returns-in-Within : goal.returns-in-Within
-returns-in-Within c = search (judging_heard, rules)
+pub returns : goal.returns
+returns c = search (judging_heard, rules)

@@ -5,5 +5,5 @@ use Rattle.judge.proofs.write.write_batch.Goals as goal
 pub write_one-w-requires : goal.write_one-w-requires
 write_one-w-requires c = search (writing, rules)
 
-pub loop-i-preserved : goal.loop-i-preserved
-loop-i-preserved c = search (writing, rules)
+pub loop-x-preserved : goal.loop-x-preserved
+loop-x-preserved c = search (writing, rules)

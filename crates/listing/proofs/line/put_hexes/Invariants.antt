@@ -1,9 +1,5 @@
-use Rattle.std.proofs.Common.{◌-◌, length}
 use Rattle.listing.proofs.Lining.{Hexing}
 use Rattle.listing.proofs.line.put_hexes.Given as goal
 
-abbrev pub invariant-loop-k : goal.invariant-loop-k
-invariant-loop-k l = Hexing l.s l.initial.out l.i l.out l.k l.end
-
-abbrev pub decreases-loop-k : goal.decreases-loop-k
-decreases-loop-k l = length l.s - l.k
+abbrev pub invariant-loop-x : goal.invariant-loop-x
+invariant-loop-x l = Hexing l.s l.initial.out l.i l.out l.x-index l.end

@@ -5,9 +5,6 @@ use Rattle.listing.proofs.line.put_lines.Goals as goal
 pub returns-in-End : goal.returns-in-End
 returns-in-End c = search (lining, rules)
 
-pub returns-in-Cut : goal.returns-in-Cut
-returns-in-Cut c = search (lining, rules)
-
 pub slice_bounds-put_line-count : goal.slice_bounds-put_line-count
 slice_bounds-put_line-count c = search (lining, rules)
 

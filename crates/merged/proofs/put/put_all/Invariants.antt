@@ -1,8 +1,8 @@
-use Rattle.merged.proofs.Putting.{Putting, measure}
+use Rattle.merged.proofs.Putting.{Putting, items_of}
 use Rattle.merged.proofs.put.put_all.Given as goal
 
 abbrev pub invariant-loop-sum : goal.invariant-loop-sum
-invariant-loop-sum l = Putting l.store l.initial.at l.ends l.initial.f l.from l.n l.initial.out l.at l.f l.out l.counts
+invariant-loop-sum l = Putting l.initial.walk l.initial.out l.walk l.out l.counts
 
 abbrev pub decreases-loop-sum : goal.decreases-loop-sum
-decreases-loop-sum l = measure l.store l.at l.ends l.from l.n
+decreases-loop-sum l = items_of l.walk

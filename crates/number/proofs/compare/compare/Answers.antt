@@ -10,3 +10,6 @@ returns-then-y-x c = search (words, rules)
 
 pub loop-i-preserved : goal.loop-i-preserved
 loop-i-preserved c = search (words, rules)
+
+pub returns : goal.returns
+returns c = search (words, rules)

@@ -5,14 +5,11 @@ use Rattle.sorting.proofs.runs.merge_runs.Goals as goal
 pub merge-requires : goal.merge-requires
 merge-requires c = search (doubling, rules)
 
-pub loop-buf-preserved : goal.loop-buf-preserved
-loop-buf-preserved c = search (doubling, rules)
+pub loop-a-preserved : goal.loop-a-preserved
+loop-a-preserved c = search (doubling, rules)
 
-pub merge-requires-then-w-buf : goal.merge-requires-then-w-buf
-merge-requires-then-w-buf c = search (doubling, rules)
+pub returns : goal.returns
+returns c = search (doubling, rules)
 
-pub returns-then-w-buf : goal.returns-then-w-buf
-returns-then-w-buf c = search (doubling, rules)
-
-pub returns-else-w-buf : goal.returns-else-w-buf
-returns-else-w-buf c = search (doubling, rules)
+pub returns-2 : goal.returns-2
+returns-2 c = search (doubling, rules)

@@ -3,6 +3,3 @@ use Rattle.sorting.proofs.settle.settle.Given as goal
 
 abbrev pub invariant-loop-j : goal.invariant-loop-j
 invariant-loop-j l = Settling l.s l.initial.buf l.i l.x l.p l.buf l.j
-
-abbrev pub decreases-loop-j : goal.decreases-loop-j
-decreases-loop-j l = l.j

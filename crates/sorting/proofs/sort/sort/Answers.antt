@@ -10,3 +10,6 @@ extend-requires c = search (joining, rules)
 
 pub loop-m-preserved : goal.loop-m-preserved
 loop-m-preserved c = search (joining, rules)
+
+pub returns-else-ascends-2 : goal.returns-else-ascends-2
+returns-else-ascends-2 c = search (joining, rules)

@@ -5,12 +5,6 @@ use Rattle.turn.proofs.stretch.seek_changes.Goals as goal
 pub returns-then-bound-change_front : goal.returns-then-bound-change_front
 returns-then-bound-change_front c = search (stretching, rules)
 
-pub overflow_sub-announced : goal.overflow_sub-announced
-overflow_sub-announced c = search (stretching, rules)
-
-pub overflow_add-withdrawn : goal.overflow_add-withdrawn
-overflow_add-withdrawn c = search (stretching, rules)
-
 pub loop-at-preserved : goal.loop-at-preserved
 loop-at-preserved c = search (stretching, rules)
 

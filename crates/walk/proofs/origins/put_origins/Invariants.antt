@@ -2,8 +2,8 @@ use Rattle.std.proofs.Common.{◌-◌, ◌+◌, length}
 use Rattle.walk.proofs.OriginTurns.{Merged}
 use Rattle.walk.proofs.origins.put_origins.Given as goal
 
-abbrev pub invariant-loop-p : goal.invariant-loop-p
-invariant-loop-p l = Merged l.a l.left l.b l.right l.initial.sum l.initial.out l.out l.i l.j l.sum
+abbrev pub invariant-loop-next : goal.invariant-loop-next
+invariant-loop-next l = Merged l.a l.initial.stand.left l.b l.initial.stand.right l.initial.stand.counts l.initial.out l.out l.stand.left l.stand.right l.stand.counts
 
-abbrev pub decreases-loop-p : goal.decreases-loop-p
-decreases-loop-p l = length l.a - l.i + (length l.b - l.j)
+abbrev pub decreases-loop-next : goal.decreases-loop-next
+decreases-loop-next l = length l.a - l.stand.left + (length l.b - l.stand.right)

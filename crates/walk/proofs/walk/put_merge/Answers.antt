@@ -8,5 +8,5 @@ loop-side-preserved c = search (merging, rules)
 pub returns-in-Left : goal.returns-in-Left
 returns-in-Left c = search (merging, rules)
 
-pub returns : goal.returns
-returns c = search (merging, rules)
+pub returns-in-Right : goal.returns-in-Right
+returns-in-Right c = search (merging, rules)

@@ -1,8 +1,8 @@
-use Rattle.wire.proofs.Looping.{Putting, measure}
+use Rattle.wire.proofs.Looping.{Putting, items_of}
 use Rattle.wire.proofs.deltas.put_all.Given as goal
 
 abbrev pub invariant-loop-key : goal.invariant-loop-key
-invariant-loop-key l = Putting l.version l.store l.initial.at l.ends l.initial.f l.from l.n l.initial.out l.at l.f l.out l.t
+invariant-loop-key l = Putting l.version l.initial.walk l.initial.out l.walk l.out l.t
 
 abbrev pub decreases-loop-key : goal.decreases-loop-key
-decreases-loop-key l = measure l.store l.at l.ends l.from l.n
+decreases-loop-key l = items_of l.walk

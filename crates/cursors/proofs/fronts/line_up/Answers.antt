@@ -1,6 +1,0 @@
-use Rattle.std.proofs.Common.{rules}
-use Rattle.cursors.proofs.Lining.{lining}
-use Rattle.cursors.proofs.fronts.line_up.Goals as goal
-
-pub loop-r-init : goal.loop-r-init
-loop-r-init c = search (lining, rules)

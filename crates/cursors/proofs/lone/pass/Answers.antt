@@ -1,6 +1,0 @@
-use Rattle.std.proofs.Common.{rules}
-use Rattle.cursors.proofs.Passing.{passing}
-use Rattle.cursors.proofs.lone.pass.Goals as goal
-
-pub returns : goal.returns
-returns c = search (passing, rules)

@@ -1,9 +1,0 @@
-use Rattle.std.proofs.Common.{◌-◌, length}
-use Rattle.wire.proofs.Running.{Running}
-use Rattle.wire.proofs.origins.put_sixes.Given as goal
-
-abbrev pub invariant-loop-version : goal.invariant-loop-version
-invariant-loop-version l = Running l.version l.s l.from l.t l.initial.out l.at l.out l.len l.announced
-
-abbrev pub decreases-loop-version : goal.decreases-loop-version
-decreases-loop-version l = length l.s - l.at
