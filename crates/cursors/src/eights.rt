@@ -6,7 +6,7 @@ ghost use Rattle.cursors.specs.Front.{Lowest, Blocks, Finds, Skips, Settled};
 
 #[derive(Clone, Copy)]
 pub struct Eights {
-    pub(crate) of: [u64; 72],
+    pub of: [u64; 72],
 }
 
 impl Eights {

@@ -12,24 +12,24 @@ use crate::front::front_at;
 #[derive(Clone, Copy)]
 pub struct Walk<'a> {
     pub store: &'a [u8],
-    pub(crate) at: [usize; 64],
-    pub(crate) ends: [usize; 64],
-    pub(crate) fronts: Eights,
-    pub(crate) from: usize,
-    pub(crate) n: usize,
+    pub at: [usize; 64],
+    pub ends: [usize; 64],
+    pub fronts: Eights,
+    pub from: usize,
+    pub n: usize,
 }
 
 impl<'a> Walk<'a> {
     // The walk over the runs from `from` up to n, with their fronts.
     pub fn new(
         store: &'a [u8],
-        at: [usize; 64],
-        ends: [usize; 64],
+        at: &[usize; 64],
+        ends: &[usize; 64],
         from: usize,
         n: usize,
     ) -> Walk<'a>
-        requires { Within store.now at ends n }
-        ensures { LinedUp store.now at ends from n result }
+        requires { Within store.now at.now ends.now n }
+        ensures { LinedUp store.now at.now ends.now from n result }
     {
         let mut fronts = Eights { of: [u64::MAX; 72] };
         for r in from..n {
@@ -37,8 +37,8 @@ impl<'a> Walk<'a> {
         }
         Walk {
             store,
-            at,
-            ends,
+            at: *at,
+            ends: *ends,
             fronts,
             from,
             n,

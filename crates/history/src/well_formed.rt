@@ -63,9 +63,9 @@ fn good_snapshot(n: usize, snapshots: &[u8]) -> bool
 }
 
 // Whether n deltas of these lengths lie one behind the other in the delta store, each good.
-fn good_runs(lens: [u32; 64], n: usize, deltas: &[u8]) -> bool
+fn good_runs(lens: &[u32; 64], n: usize, deltas: &[u8]) -> bool
     requires { n ≤ 64 }
-    ensures { result ≡ good_runs (take n lens) deltas.now }
+    ensures { result ≡ good_runs (take n lens.now) deltas.now }
 {
     let mut from = 0;
     for k in 0..n {
@@ -83,18 +83,19 @@ fn good_runs(lens: [u32; 64], n: usize, deltas: &[u8]) -> bool
 }
 
 // The same, and whether the store is within its length limit.
-fn good_deltas(lens: [u32; 64], n: usize, deltas: &[u8]) -> bool
+fn good_deltas(lens: &[u32; 64], n: usize, deltas: &[u8]) -> bool
     requires { n ≤ 64 }
-    ensures { result ≡ good_deltas (take n lens) deltas.now }
+    ensures { result ≡ good_deltas (take n lens.now) deltas.now }
 {
     within_limit(Form::Delta, deltas) && good_runs(lens, n, deltas)
 }
 
-// Whether a history, lent with its stores, is well formed.
+// Whether a history, lent with its stores, is well formed. Inlined: a call would copy the history.
+#[inline(always)]
 pub fn well_formed(history: History, snapshots: &[u8], deltas: &[u8]) -> bool
     ensures { result ≡ well_formed history snapshots.now deltas.now }
 {
     good_state(history)
         && good_snapshot(history.snapshot as usize, snapshots)
-        && good_deltas(history.deltas, history.n as usize, deltas)
+        && good_deltas(&history.deltas, history.n as usize, deltas)
 }

@@ -53,6 +53,6 @@ pub fn merged_last(
 {
     let places = place_all(lengths, n);
     let most = sum_lengths(lengths, n - d, n);
-    let mut walk = Walk::new(store, places.at, places.ends, n - d, n);
+    let mut walk = Walk::new(store, &places.at, &places.ends, n - d, n);
     put_whole(&mut walk, most, out)
 }

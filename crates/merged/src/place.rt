@@ -13,13 +13,15 @@ pub fn place_all(lengths: [u32; 64], n: usize) -> Places
     requires { Summed lengths n }
     ensures { Placed lengths n result }
 {
-    let mut at = [0; 64];
-    let mut ends = [0; 64];
+    let mut places = Places {
+        at: [0; 64],
+        ends: [0; 64],
+    };
     let mut sum = 0;
     for i in 0..n {
-        at[i] = sum;
+        places.at[i] = sum;
         sum += lengths[i] as usize;
-        ends[i] = sum;
+        places.ends[i] = sum;
     }
-    Places { at, ends }
+    places
 }

@@ -80,7 +80,7 @@ fn put_last(
 {
     let places = place_all(lengths, n);
     let most = most_of(version, sum_lengths(lengths, n - d, n));
-    let mut walk = Walk::new(store, places.at, places.ends, n - d, n);
+    let mut walk = Walk::new(store, &places.at, &places.ends, n - d, n);
     put_merged(version, frame, &mut walk, most, out)
 }
 
