@@ -86,14 +86,14 @@ module _ (form : Form) (s : List ℕ) (at : ℕ) (k : Key) (j : Judged form s at
         found : judge form at (key_in s k) (front (drop at s)) (verdict_f form turn.0) ≡ verdict form s
         found = turn.2
 
-        judged_equal : o ≡ Equal → Err (flaw.NotAbove at) ≡ verdict form s
+        pub judged_equal : o ≡ Equal → Err (flaw.NotAbove at) ≡ verdict form s
         unfolding judge
         judged_equal u =
             let w = whole_at s at r f tag from to e in
             let i = key_in_lem s kind from to w.ordered w.within key p in
             rw (w.reads, parts.0, parts.1, ← m, ← i, ← l, u) at found
 
-        judged_greater : o ≡ Greater → Err (flaw.NotAbove at) ≡ verdict form s
+        pub judged_greater : o ≡ Greater → Err (flaw.NotAbove at) ≡ verdict form s
         unfolding judge
         judged_greater u =
             let w = whole_at s at r f tag from to e in
@@ -159,4 +159,4 @@ module _ (form : Form) (tag : ℕ) (b : List ℕ) (at : ℕ) (t : Tag) (e : t �
 
 pub ruleset refusing = (refused_senseless, refused_bad, refused_plain, refused_aspa)
 
-pub ruleset judging = (judged_start, judged_end, judged_cut, judged_refused, judged_not_above, judged_next, field_less, body_ordered, body_within)
+pub ruleset judging = (judged_start, judged_end, judged_cut, judged_refused, judged_equal, judged_greater, judged_next, field_less, body_ordered, body_within)

@@ -57,7 +57,8 @@ pub fn check(form: Form, s: &[u8]) -> Result<(), Flaw>
                         before = last;
                         at = stand.at;
                     }
-                    Ordering::Equal | Ordering::Greater => return Err(Flaw::NotAbove { at }),
+                    Ordering::Equal => return Err(Flaw::NotAbove { at }),
+                    Ordering::Greater => return Err(Flaw::NotAbove { at }),
                 }
             }
         }

@@ -41,3 +41,6 @@ loop-tag-smaller c = search (judging, further, rules)
 
 pub returns-in-Equal : goal.returns-in-Equal
 returns-in-Equal c = search (judging, further, rules)
+
+pub returns-in-Greater : goal.returns-in-Greater
+returns-in-Greater c = search (judging, further, rules)
