@@ -159,4 +159,4 @@ module _ (form : Form) (tag : ℕ) (b : List ℕ) (at : ℕ) (t : Tag) (e : t �
 
 pub ruleset refusing = (refused_senseless, refused_bad, refused_plain, refused_aspa)
 
-pub ruleset judging = (judged_start, judged_end, judged_cut, judged_refused, judged_equal, judged_greater, judged_next, field_less, body_ordered, body_within)
+pub ruleset judging = (judged_start, judged_end, judged_cut, judged_refused, judged_equal, judged_greater, judged_not_above, judged_next, field_less, body_ordered, body_within)
